@@ -1,0 +1,67 @@
+-- Laws of the blank check's finding.
+-- Assumes nothing.
+use mathlib.Core.Path.{_≡_, refl, sym, ap, _∙_}
+use mathlib.Core.Bool.{Bool}
+use mathlib.Core.List.{List, [], _∷_, map}
+use mathlib.Core.Option.{Option, none, some}
+use Prim.Native.Nat.{ℕ, zero, suc, _+_, _-_, _≤_, _<_, suc-le-suc}
+use native.Mathlib.Nat.{add-zero, zero-add, suc-add, add-suc, le-of-suc-le-suc, not-suc-le-zero, zero-lt-suc}
+use native.Mathlib.Omega.{arith}
+use lib.Dec.{eqb}
+use lib.ListN.{length, take, drop, getD}
+use lib.Seq.{drop-cons}
+use borrow.Author.Tests.{eq-eqb, ne-eqb}
+use Rattle.board.specs.Words.{if_then_else_, part}
+use Rattle.board.specs.Blank.{firstUsed, usedIn}
+use Rattle.board.proofs.WordsLaws.{part-whole}
+
+-- FFh at each place before x, and not at x: x is found
+firstUsed-at : (l : List ℕ) (a x : ℕ) → x < length l → ((i : ℕ) → i < x → getD l i 0 ≡ 0xFF) → (getD l x 0 ≡ 0xFF → ⊥) → firstUsed a l ≡ some (a + x)
+firstUsed-at [] a x h f g = absurd (not-suc-le-zero h)
+firstUsed-at (y ∷ ys) a zero h f g = rw (ne-eqb y 0xFF g, add-zero a)
+firstUsed-at (y ∷ ys) a (suc x) h f g =
+    rw (eq-eqb y 0xFF (f zero (zero-lt-suc x)))
+    (firstUsed-at ys (suc a) x (le-of-suc-le-suc h) (λ i k. f (suc i) (suc-le-suc k)) g ∙ ap some (suc-add a x ∙ sym (add-suc a x)))
+
+-- the whole flash checked
+pub usedIn-whole : (f : List ℕ) (e x : ℕ) → length f ≡ suc e → x ≤ e → ((i : ℕ) → i < x → getD f i 0 ≡ 0xFF) → (getD f x 0 ≡ 0xFF → ⊥) → usedIn 0 e f ≡ some x
+unfolding usedIn
+usedIn-whole f e x h k p q = rw (part-whole f e h) (firstUsed-at f 0 x (omega arith) p q ∙ ap some (zero-add x))
+
+-- one byte checked
+pub usedIn-one : (f : List ℕ) (x : ℕ) → x < length f → usedIn x x f ≡ (if eqb (getD f x 0) 0xFF then none else some x)
+unfolding usedIn
+usedIn-one f x h =
+    let o : suc x - x ≡ 1 = omega arith in
+    rw (o, drop-cons f x 0 h)
+
+-- ---- what the blank check sees of a flash: at which addresses it is FFh
+
+abbrev pub marks : List ℕ → List Bool
+marks f = map (λ x. eqb x 0xFF) f
+
+firstUnmarked : ℕ → List Bool → Option ℕ
+firstUnmarked a [] = none
+firstUnmarked a (t ∷ ts) = if t then firstUnmarked (suc a) ts else some a
+
+firstUsed-marks : (a : ℕ) (l : List ℕ) → firstUsed a l ≡ firstUnmarked a (marks l)
+unfolding firstUnmarked
+firstUsed-marks a [] = refl
+firstUsed-marks a (x ∷ xs) = rw (firstUsed-marks (suc a) xs)
+
+marks-take : (n : ℕ) (l : List ℕ) → marks (take n l) ≡ take n (marks l)
+marks-take zero l = refl
+marks-take (suc n) [] = refl
+marks-take (suc n) (x ∷ xs) = ap (λ r. eqb x 0xFF ∷ r) (marks-take n xs)
+
+marks-drop : (n : ℕ) (l : List ℕ) → marks (drop n l) ≡ drop n (marks l)
+marks-drop zero l = refl
+marks-drop (suc n) [] = refl
+marks-drop (suc n) (x ∷ xs) = marks-drop n xs
+
+-- two flashes that are FFh at the same addresses give the same finding
+pub usedIn-same : (a e : ℕ) (f f′ : List ℕ) → marks f ≡ marks f′ → usedIn a e f ≡ usedIn a e f′
+unfolding usedIn
+usedIn-same a e f f′ m =
+    let q : marks (part a e f) ≡ marks (part a e f′) = simp (marks-take, marks-drop, m) in
+    firstUsed-marks a (part a e f) ∙ ap (firstUnmarked a) q ∙ sym (firstUsed-marks a (part a e f′))

@@ -1,0 +1,15 @@
+-- The blank check's finding: the first byte of a range that is not FFh. Assumes nothing: these are definitions.
+use mathlib.Core.List.{List, [], _∷_}
+use mathlib.Core.Option.{Option, none, some}
+use Prim.Native.Nat.{ℕ, suc}
+use lib.Dec.{eqb}
+use Rattle.board.specs.Words.{if_then_else_, part}
+
+-- the address of the first byte that is not FFh, of bytes that stand from address a on
+abbrev pub firstUsed : ℕ → List ℕ → Option ℕ
+firstUsed a [] = none
+firstUsed a (x ∷ xs) = if eqb x 0xFF then firstUsed (suc a) xs else some a
+
+-- "the first such address" from a to e of a flash
+unfoldable pub usedIn : ℕ → ℕ → List ℕ → Option ℕ
+usedIn a e f = firstUsed a (part a e f)

@@ -1,0 +1,3 @@
+-- The laws of the commands' definitions. Each file has the laws of the file of specs/ that it is named after.
+pub mod AddressLaws
+pub mod TransferLaws

@@ -1,0 +1,57 @@
+-- The layout of a program transfer: "32 bytes of command (26 not looked at), X pad bytes, the n bytes, 16 suffix bytes".
+-- Assumes nothing: these are definitions.
+use mathlib.Core.Bool.{Bool, false, not}
+use mathlib.Core.List.{List}
+use Prim.Native.Nat.{ℕ, _+_, _%_}
+use lib.Dec.{eqb}
+use lib.ListN.{length, take, drop}
+use Rattle.board.specs.declared.address.Range.{Range}
+use Rattle.board.specs.Memory.{rangeStart, rangeCount}
+use Rattle.command.specs.Form.{Command, Program, Read, BlankCheck, EraseBlock, EraseChip, WriteByte, WriteHsb, StartReset, StartAt, ReadVersion, ReadByte, ReadHsb}
+
+-- "32 bytes of command (26 not looked at)", "16 suffix bytes"
+abbrev pub commandSize : ℕ
+commandSize = 32
+
+abbrev pub fillerSize : ℕ
+fillerSize = 26
+
+abbrev pub suffixSize : ℕ
+suffixSize = 16
+
+-- "X being start mod 32"
+abbrev pub padding : ℕ → ℕ
+padding a = a % 32
+
+-- where the n bytes begin, and where the suffix does
+abbrev pub bodyPlace : Range → ℕ
+bodyPlace r = commandSize + padding (rangeStart r)
+
+abbrev pub suffixPlace : Range → ℕ
+suffixPlace r = bodyPlace r + rangeCount r
+
+-- "48 + X + n"
+abbrev pub transferLength : Range → ℕ
+transferLength r = 48 + padding (rangeStart r) + rangeCount r
+
+-- the n bytes of a transfer, and its suffix
+abbrev pub bodyOf : Range → List ℕ → List ℕ
+bodyOf r d = take (rangeCount r) (drop (bodyPlace r) d)
+
+abbrev pub suffixOf : Range → List ℕ → List ℕ
+suffixOf r d = drop (suffixPlace r) d
+
+-- "and for program at last its whole length"
+abbrev pub badLength : Command → List ℕ → Bool
+badLength (Program r) d = not (eqb (length d) (transferLength r))
+badLength (Read r) d = false
+badLength (BlankCheck a e) d = false
+badLength (EraseBlock k) d = false
+badLength EraseChip d = false
+badLength (WriteByte i v) d = false
+badLength (WriteHsb v) d = false
+badLength StartReset d = false
+badLength (StartAt a) d = false
+badLength ReadVersion d = false
+badLength (ReadByte i) d = false
+badLength ReadHsb d = false

@@ -1,0 +1,6 @@
+-- The proofs of the statements in specs/: Effects, BenchCases and LevelTwo.
+pub mod Shape
+pub mod EffectsHold
+pub mod Ready
+pub mod BenchCasesHold
+pub mod LevelTwoHolds

@@ -1,0 +1,109 @@
+-- What a request leaves on the board, said by the command that was accepted: for every board and every request.
+-- The statements are proved in proofs/EffectsHold.antt.
+use mathlib.Core.Path.{_≡_}
+use mathlib.Core.List.{List, []}
+use mathlib.Core.Option.{Option, none, some}
+use Prim.Native.Nat.{ℕ, _≤_}
+use Rattle.board.specs.Memory.{Programmed, blankFlash}
+use Rattle.board.specs.Pages.{pagesMet, blockStart, blockFF}
+use Rattle.board.specs.Config.{withByte, withHsb, erasedConfig}
+use Rattle.board.specs.declared.address.Range.the-variants.{Flash, Eeprom}
+use Rattle.board.specs.declared.address.Block.the-variants.{Low, Middle, High}
+use Rattle.board.specs.declared.config.Config.{Config}
+use Rattle.command.specs.Transfer.{bodyOf}
+use Rattle.command.specs.declared.command.Command.{Command}
+use Rattle.command.specs.declared.command.Command.the-variants.{Program, Read, BlankCheck, EraseBlock, EraseChip, WriteByte, WriteHsb, StartReset, StartAt, ReadVersion, ReadByte, ReadHsb}
+use Rattle.loader.specs.Result.{Board, Result, next, pages, Refused}
+use Rattle.loader.specs.Refusals.{refusal}
+use Rattle.loader.specs.Step.{ask}
+
+-- "for programming flash, the pages that the range meets; 64, 64, 128, 256 for the erases; else 0. .. at most 9 for a program
+-- transfer."
+abbrev pub PagesOf : Option Command → ℕ → Type 0
+PagesOf none n = n ≡ 0
+PagesOf (some (Program (Flash a e))) n = (n ≡ pagesMet (a .0) (e .0)) × (n ≤ 9)
+PagesOf (some (Program (Eeprom a e))) n = n ≡ 0
+PagesOf (some (Read r)) n = n ≡ 0
+PagesOf (some (BlankCheck a e)) n = n ≡ 0
+PagesOf (some (EraseBlock Low)) n = n ≡ 64
+PagesOf (some (EraseBlock Middle)) n = n ≡ 64
+PagesOf (some (EraseBlock High)) n = n ≡ 128
+PagesOf (some EraseChip) n = n ≡ 256
+PagesOf (some (WriteByte i v)) n = n ≡ 0
+PagesOf (some (WriteHsb v)) n = n ≡ 0
+PagesOf (some StartReset) n = n ≡ 0
+PagesOf (some (StartAt a)) n = n ≡ 0
+PagesOf (some ReadVersion) n = n ≡ 0
+PagesOf (some (ReadByte i)) n = n ≡ 0
+PagesOf (some ReadHsb) n = n ≡ 0
+
+-- the flash, of which a byte that is not in the range stays
+abbrev pub FlashAfter : Option Command → List ℕ → List ℕ → List ℕ → Type 0
+FlashAfter none d before after = after ≡ before
+FlashAfter (some (Program (Flash a e))) d before after = Programmed (a .0) (bodyOf (Flash a e) d) before after
+FlashAfter (some (Program (Eeprom a e))) d before after = after ≡ before
+FlashAfter (some (Read r)) d before after = after ≡ before
+FlashAfter (some (BlankCheck a e)) d before after = after ≡ before
+FlashAfter (some (EraseBlock k)) d before after = Programmed (blockStart k) (blockFF k) before after
+FlashAfter (some EraseChip) d before after = after ≡ blankFlash
+FlashAfter (some (WriteByte i v)) d before after = after ≡ before
+FlashAfter (some (WriteHsb v)) d before after = after ≡ before
+FlashAfter (some StartReset) d before after = after ≡ before
+FlashAfter (some (StartAt a)) d before after = after ≡ before
+FlashAfter (some ReadVersion) d before after = after ≡ before
+FlashAfter (some (ReadByte i)) d before after = after ≡ before
+FlashAfter (some ReadHsb) d before after = after ≡ before
+
+-- the EEPROM, of which a byte that is not in the range stays, and every byte in a full chip erase
+abbrev pub EepromAfter : Option Command → List ℕ → List ℕ → List ℕ → Type 0
+EepromAfter none d before after = after ≡ before
+EepromAfter (some (Program (Flash a e))) d before after = after ≡ before
+EepromAfter (some (Program (Eeprom a e))) d before after = Programmed (a .0) (bodyOf (Eeprom a e) d) before after
+EepromAfter (some (Read r)) d before after = after ≡ before
+EepromAfter (some (BlankCheck a e)) d before after = after ≡ before
+EepromAfter (some (EraseBlock k)) d before after = after ≡ before
+EepromAfter (some EraseChip) d before after = after ≡ before
+EepromAfter (some (WriteByte i v)) d before after = after ≡ before
+EepromAfter (some (WriteHsb v)) d before after = after ≡ before
+EepromAfter (some StartReset) d before after = after ≡ before
+EepromAfter (some (StartAt a)) d before after = after ≡ before
+EepromAfter (some ReadVersion) d before after = after ≡ before
+EepromAfter (some (ReadByte i)) d before after = after ≡ before
+EepromAfter (some ReadHsb) d before after = after ≡ before
+
+-- the configuration
+abbrev pub configAfter : Option Command → Config → Config
+configAfter none c = c
+configAfter (some (Program r)) c = c
+configAfter (some (Read r)) c = c
+configAfter (some (BlankCheck a e)) c = c
+configAfter (some (EraseBlock k)) c = c
+configAfter (some EraseChip) c = erasedConfig c
+configAfter (some (WriteByte i v)) c = withByte i v c
+configAfter (some (WriteHsb v)) c = withHsb v c
+configAfter (some StartReset) c = c
+configAfter (some (StartAt a)) c = c
+configAfter (some ReadVersion) c = c
+configAfter (some (ReadByte i)) c = c
+configAfter (some ReadHsb) c = c
+
+-- a request with the data d, answered with r, leaves these
+pub record Leaves (b : Board) (d : List ℕ) (r : Result) : Type 0 where
+  pub flash : FlashAfter (r .accepted) d (b .flash) (next b r .flash)
+  pub eeprom : EepromAfter (r .accepted) d (b .eeprom) (next b r .eeprom)
+  pub config : r .config ≡ configAfter (r .accepted) (b .config)
+  pub page-count : PagesOf (r .accepted) (pages r)
+
+abbrev pub Effects : Type 0
+Effects = (b : Board) (setup d : List ℕ) (n : ℕ) → Leaves b d (ask b setup d n)
+
+-- "A refusal gives its number, length 0 and 0 pages; session, memories, configuration and reply stay."
+pub record Moves-nothing (b : Board) (k : ℕ) (number : ℕ) (r : Result) : Type 0 where
+  pub its-number : number ≡ k
+  pub nothing-sent : r .sent ≡ []
+  pub no-pages : pages r ≡ 0
+  pub board-stays : next b r ≡ b
+
+abbrev pub RefusalsMoveNothing : Type 0
+RefusalsMoveNothing = (b : Board) (setup d : List ℕ) (n k : ℕ)
+    → ask b setup d n .outcome ≡ Refused k → Moves-nothing b k (refusal b setup d n) (ask b setup d n)

@@ -1,0 +1,14 @@
+// The device side of the bootloader: the session, the requests and one step.
+//
+// No public function has a `requires`: each says what it answers for every input.
+mod answer;
+mod request;
+mod session;
+
+pub use answer::Answer;
+pub use answer::Outcome;
+pub use request::Request;
+pub use session::Pending;
+pub use session::Session;
+pub use session::StartKind;
+pub use session::power_up;

@@ -1,0 +1,122 @@
+//! The two memories of the board and what is done to them.
+
+/// "Flash: 32,768 bytes, 0000h to 7FFFh".
+pub const FLASH_SIZE: usize = 32_768;
+/// "EEPROM: 1,024 bytes, 0000h to 03FFh".
+pub const EEPROM_SIZE: usize = 1_024;
+/// "256 pages of 128".
+pub const PAGE_SIZE: usize = 128;
+/// The last flash address, which bounds blank reports and starts too.
+pub const FLASH_LAST: u16 = 0x7FFF;
+/// "over 1,024 bytes": the most that one range programs, reads or keeps pending.
+pub const RANGE_MOST: u16 = 1_024;
+
+const ERASED: u8 = 0xFF;
+
+/// Which memory a range lies in.
+#[derive(Clone, Copy, Debug, PartialEq, Eq)]
+pub enum Memory {
+    /// Flash.
+    Flash,
+    /// EEPROM.
+    Eeprom,
+}
+
+impl Memory {
+    /// The number of bytes in this memory.
+    pub const fn size(self) -> usize {
+        match self {
+            Memory::Flash => FLASH_SIZE,
+            Memory::Eeprom => EEPROM_SIZE,
+        }
+    }
+
+    /// Whether the range, both ends included, is neither "backward" nor "outside".
+    pub const fn holds(self, start: u16, end: u16) -> bool {
+        start <= end && (end as usize) < self.size()
+    }
+
+    /// Whether the range also is not "over 1,024 bytes".
+    pub const fn holds_transfer(self, start: u16, end: u16) -> bool {
+        self.holds(start, end) && end - start < RANGE_MOST
+    }
+}
+
+/// A block of flash that the block erase knows.
+#[derive(Clone, Copy, Debug, PartialEq, Eq)]
+pub enum Block {
+    /// 0000h-1FFFh, code 00h.
+    First,
+    /// 2000h-3FFFh, code 20h.
+    Second,
+    /// 4000h-7FFFh, code 40h.
+    Third,
+}
+
+impl Block {
+    const fn bounds(self) -> (usize, usize) {
+        match self {
+            Block::First => (0x0000, 0x2000),
+            Block::Second => (0x2000, 0x4000),
+            Block::Third => (0x4000, 0x8000),
+        }
+    }
+}
+
+/// The lent memories, once refusals 2 and 3 are behind.
+///
+/// Every range given to it has passed [`Memory::holds`].
+pub(crate) struct Board<'a> {
+    pub(crate) flash: &'a mut [u8; FLASH_SIZE],
+    pub(crate) eeprom: &'a mut [u8; EEPROM_SIZE],
+}
+
+impl Board<'_> {
+    pub(crate) fn bytes(&self, memory: Memory, start: u16, end: u16) -> &[u8] {
+        let whole: &[u8] = match memory {
+            Memory::Flash => &self.flash[..],
+            Memory::Eeprom => &self.eeprom[..],
+        };
+        &whole[usize::from(start)..usize::from(end) + 1]
+    }
+
+    /// Stores the bytes and gives "the pages that the range meets", 0 for EEPROM.
+    pub(crate) fn program(&mut self, memory: Memory, start: u16, bytes: &[u8]) -> usize {
+        let from = usize::from(start);
+        let past = from + bytes.len();
+        match memory {
+            Memory::Flash => {
+                self.flash[from..past].copy_from_slice(bytes);
+                (past - 1) / PAGE_SIZE - from / PAGE_SIZE + 1
+            }
+            Memory::Eeprom => {
+                self.eeprom[from..past].copy_from_slice(bytes);
+                0
+            }
+        }
+    }
+
+    /// "the first such address": of a byte not FFh in the flash range.
+    pub(crate) fn first_not_blank(&self, start: u16, end: u16) -> Option<u16> {
+        let range = self.bytes(Memory::Flash, start, end);
+        // A whole piece is and-ed without a branch, so that it goes in wide words.
+        let (pieces, _) = range.as_chunks::<PAGE_SIZE>();
+        let blank = |piece: &[u8; PAGE_SIZE]| piece.iter().fold(ERASED, |all, b| all & b) == ERASED;
+        let skipped = pieces.iter().take_while(|piece| blank(piece)).count() * PAGE_SIZE;
+        let within = range[skipped..].iter().position(|&b| b != ERASED)?;
+        Some(start + (skipped + within) as u16)
+    }
+
+    /// "A block erase sets its range to FFh"; gives 64, 64 or 128 pages.
+    pub(crate) fn erase_block(&mut self, block: Block) -> usize {
+        let (from, past) = block.bounds();
+        self.flash[from..past].fill(ERASED);
+        (past - from) / PAGE_SIZE
+    }
+
+    /// "Full chip erase sets flash to FFh", EEPROM stays; gives 256 pages.
+    pub(crate) fn erase_flash(&mut self) -> usize {
+        self.flash.fill(ERASED);
+        FLASH_SIZE / PAGE_SIZE
+    }
+}

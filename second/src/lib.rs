@@ -1,0 +1,22 @@
+//! The device side of the AT89C5131A USB bootloader in DFU mode, the host's
+//! command writer and the bench program, written from the scope paper alone
+//! to be compared, input by input, with the first program.
+
+#![forbid(unsafe_code)]
+#![warn(missing_docs)]
+
+pub mod bench;
+pub mod board;
+pub mod command;
+pub mod config;
+pub mod job;
+pub mod request;
+pub mod session;
+
+pub use bench::run;
+pub use board::{Block, Memory};
+pub use command::{padding, read_command, write_command, Command, Reading};
+pub use config::{Config, Level};
+pub use job::{count, requests, verdict, Request};
+pub use request::{step, Answer, Outcome};
+pub use session::{power_up, Pending, Session, StartKind};

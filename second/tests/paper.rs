@@ -1,0 +1,1863 @@
+//! The paper, sentence by sentence. Every expectation is worked out from its
+//! words; none is taken from what the program printed.
+
+use std::io::Write;
+use std::process::{Command as Process, Stdio};
+
+use second::*;
+
+// ---------------------------------------------------------------- the bench
+
+const GETSTATUS: [u8; 8] = [0xA1, 3, 0, 0, 0, 0, 6, 0];
+const GETSTATE: [u8; 8] = [0xA1, 5, 0, 0, 0, 0, 1, 0];
+const CLRSTATUS: [u8; 8] = [0x21, 4, 0, 0, 0, 0, 0, 0];
+const ABORT: [u8; 8] = [0x21, 6, 0, 0, 0, 0, 0, 0];
+const DETACH: [u8; 8] = [0x21, 0, 0, 0, 0, 0, 0, 0];
+
+const LEVEL_0: u8 = 0xFF;
+const LEVEL_1: u8 = 0xFE;
+const LEVEL_2: u8 = 0xFC;
+
+/// The states that refusals 6 and 7 let through.
+const STATES: [u8; 6] = [2, 3, 5, 6, 9, 10];
+
+fn dnload(length: usize) -> [u8; 8] {
+    let [low, high] = u16::try_from(length).unwrap().to_le_bytes();
+    [0x21, 1, 0, 0, 0, 0, low, high]
+}
+
+fn upload(length: u16) -> [u8; 8] {
+    let [low, high] = length.to_le_bytes();
+    [0xA1, 2, 0, 0, 0, 0, low, high]
+}
+
+/// Everything a request can touch.
+#[derive(Clone, Debug, PartialEq)]
+struct Rig {
+    session: Session,
+    config: Config,
+    flash: Vec<u8>,
+    eeprom: Vec<u8>,
+    reply: Vec<u8>,
+}
+
+impl Rig {
+    /// A delivered board, all memory FFh, in state 2, with a marked reply.
+    fn new() -> Rig {
+        Rig {
+            session: Session { state: 2, status: 0, pending: Pending::Nothing },
+            config: Config { bytes: [0xFF, 0xFC, 0xFE, 0xFF, 0xFF, 0xFF, 0xFF], hsb: 0xBB },
+            flash: vec![0xFF; 32_768],
+            eeprom: vec![0xFF; 1_024],
+            reply: vec![0xA5; 1_024],
+        }
+    }
+
+    /// Memories whose every byte tells its address a little.
+    fn filled() -> Rig {
+        let mut rig = Rig::new();
+        for (at, byte) in rig.flash.iter_mut().enumerate() {
+            *byte = (at * 7 + at / 256) as u8;
+        }
+        for (at, byte) in rig.eeprom.iter_mut().enumerate() {
+            *byte = (at * 5 + 3 + at / 256) as u8;
+        }
+        rig
+    }
+
+    fn at(mut self, state: u8, status: u8, pending: Pending) -> Rig {
+        self.session = Session { state, status, pending };
+        self
+    }
+
+    fn ssb(mut self, value: u8) -> Rig {
+        self.config.bytes[5] = value;
+        self
+    }
+
+    fn send(&mut self, setup: &[u8], data: &[u8]) -> Answer {
+        step(
+            &mut self.session,
+            &mut self.config,
+            setup,
+            data,
+            &mut self.flash,
+            &mut self.eeprom,
+            &mut self.reply,
+        )
+    }
+
+    fn sent(&self, answer: &Answer) -> &[u8] {
+        &self.reply[..answer.length]
+    }
+}
+
+/// What the paper says of a request: outcome, bytes sent, pages.
+struct Said(Outcome, Vec<u8>, usize);
+
+/// Runs one request and compares all of it with what `paper` makes of a copy:
+/// answer, session, configuration, both memories, and the reply, whose bytes
+/// past those sent stay.
+#[track_caller]
+fn expect(before: &Rig, setup: &[u8], data: &[u8], paper: impl FnOnce(&mut Rig) -> Said) -> Rig {
+    let mut want = before.clone();
+    let Said(outcome, sent, pages) = paper(&mut want);
+    want.reply[..sent.len()].copy_from_slice(&sent);
+    let mut got = before.clone();
+    let answer = got.send(setup, data);
+    assert_eq!(answer, Answer { outcome, length: sent.len(), pages }, "{setup:02X?}");
+    assert_eq!(got.session, want.session, "{setup:02X?}");
+    assert_eq!(got.config, want.config, "{setup:02X?}");
+    assert!(got == want, "a memory or the reply differs after {setup:02X?}");
+    got
+}
+
+#[track_caller]
+fn command(before: &Rig, payload: &[u8], paper: impl FnOnce(&mut Rig) -> Said) -> Rig {
+    expect(before, &dnload(payload.len()), payload, paper)
+}
+
+/// "Stall: state 10, status 0Fh, nothing pending. In state 10 the status there already stays."
+fn stalls(rig: &mut Rig) -> Said {
+    if rig.session.state != 10 {
+        rig.session.status = 0x0F;
+    }
+    rig.session.state = 10;
+    rig.session.pending = Pending::Nothing;
+    Said(Outcome::Stall, vec![], 0)
+}
+
+/// "A status above is set with state 10 and nothing pending, and nothing else moves."
+fn sets(status: u8) -> impl FnOnce(&mut Rig) -> Said {
+    move |rig| {
+        rig.session = Session { state: 10, status, pending: Pending::Nothing };
+        Said(Outcome::Done, vec![], 0)
+    }
+}
+
+/// "An accepted command sets status 00h, state 3 and what is pending".
+fn taken(rig: &mut Rig, pending: Pending, pages: usize) -> Said {
+    rig.session = Session { state: 3, status: 0x00, pending };
+    Said(Outcome::Done, vec![], pages)
+}
+
+fn idles(rig: &mut Rig) -> Said {
+    rig.session = Session { state: 2, status: 0x00, pending: Pending::Nothing };
+    Said(Outcome::Done, vec![], 0)
+}
+
+fn refuses(number: u8) -> impl FnOnce(&mut Rig) -> Said {
+    move |_| Said(Outcome::Refused(number), vec![], 0)
+}
+
+fn ranged(code: u8, sub: u8, start: u16, end: u16) -> Vec<u8> {
+    let ([s1, s0], [e1, e0]) = (start.to_be_bytes(), end.to_be_bytes());
+    vec![code, sub, s1, s0, e1, e0]
+}
+
+/// A program transfer by the paper's words, with filler and pad of `waste`.
+fn transfer(memory: u8, start: u16, end: u16, bytes: &[u8], waste: u8) -> Vec<u8> {
+    let mut payload = ranged(0x01, memory, start, end);
+    payload.resize(32 + usize::from(start % 32), waste);
+    payload.extend_from_slice(bytes);
+    payload.extend_from_slice(b"sixteen bytes ..");
+    payload
+}
+
+/// A generator of our own, so that a failure comes again.
+struct Xorshift(u64);
+
+impl Xorshift {
+    fn next(&mut self) -> u64 {
+        self.0 ^= self.0 << 13;
+        self.0 ^= self.0 >> 7;
+        self.0 ^= self.0 << 17;
+        self.0
+    }
+
+    fn below(&mut self, bound: usize) -> usize {
+        ((self.next() >> 16) % bound as u64) as usize
+    }
+
+    fn byte(&mut self) -> u8 {
+        (self.next() >> 24) as u8
+    }
+
+    fn word(&mut self) -> u16 {
+        (self.next() >> 24) as u16
+    }
+
+    fn bytes(&mut self, length: usize) -> Vec<u8> {
+        (0..length).map(|_| self.byte()).collect()
+    }
+
+    fn pick<T: Copy>(&mut self, from: &[T]) -> T {
+        from[self.below(from.len())]
+    }
+}
+
+/// Something of each kind of pending, all of it sound.
+fn pendings() -> Vec<Pending> {
+    vec![
+        Pending::Nothing,
+        Pending::Read { memory: Memory::Flash, start: 0x1000, end: 0x13FF },
+        Pending::Read { memory: Memory::Eeprom, start: 0x0000, end: 0x03FF },
+        Pending::Read { memory: Memory::Flash, start: 0x7FFF, end: 0x7FFF },
+        Pending::Blank(0x1234),
+        Pending::Blank(0x7FFF),
+        Pending::Byte(0x00),
+        Pending::Byte(0xFF),
+        Pending::Start { kind: StartKind::Reset, address: 0x0000 },
+        // No command leaves this one, but no refusal keeps it out: READINGS 5.
+        Pending::Start { kind: StartKind::Reset, address: 0x1234 },
+        Pending::Start { kind: StartKind::Jump, address: 0x7FFF },
+    ]
+}
+
+// ---------------------------------------------------------- the bench cases
+
+#[test]
+fn case_1_padding() {
+    assert_eq!(padding(0x00AF), 15);
+}
+
+#[test]
+fn cases_2_to_4_one_byte_at_00af() {
+    let payload = transfer(0, 0x00AF, 0x00AF, &[0x42], 0xEE);
+    assert_eq!(payload.len(), 64);
+    command(&Rig::new(), &payload, |rig| {
+        rig.flash[0x00AF] = 0x42;
+        taken(rig, Pending::Nothing, 1)
+    });
+    let mut longer = payload.clone();
+    longer.push(0);
+    command(&Rig::new(), &longer, stalls);
+    command(&Rig::new(), &payload[..63], stalls);
+    command(&Rig::new().ssb(LEVEL_1), &payload, sets(0x03));
+}
+
+#[test]
+fn case_5_1025_bytes() {
+    command(&Rig::new(), &transfer(0, 0x0000, 0x0400, &[0; 1_025], 0), sets(0x08));
+    command(&Rig::new(), &transfer(0, 0x0000, 0x0400, &[0; 7], 0), sets(0x08));
+}
+
+#[test]
+fn case_6_nine_pages() {
+    let bytes = Xorshift(6).bytes(1_024);
+    let payload = transfer(0, 0x007F, 0x047E, &bytes, 0x11);
+    assert_eq!(payload.len(), 1_103);
+    command(&Rig::filled(), &payload, |rig| {
+        rig.flash[0x007F..=0x047E].copy_from_slice(&bytes);
+        taken(rig, Pending::Nothing, 9)
+    });
+}
+
+#[test]
+fn case_7_the_last_byte_and_one_beyond() {
+    let payload = transfer(0, 0x7FFF, 0x7FFF, &[0x42], 0xEE);
+    assert_eq!(payload.len(), 80);
+    command(&Rig::new(), &payload, |rig| {
+        rig.flash[0x7FFF] = 0x42;
+        taken(rig, Pending::Nothing, 1)
+    });
+    command(&Rig::new(), &transfer(0, 0x8000, 0x8000, &[0x42], 0), sets(0x08));
+}
+
+#[test]
+fn case_8_read_at_level_2() {
+    command(&Rig::new().ssb(LEVEL_2), &ranged(0x03, 0x00, 0, 0xFF), sets(0x0B));
+}
+
+#[test]
+fn case_9_blank_check_at_level_2() {
+    let mut rig = Rig::new().ssb(LEVEL_2);
+    rig.flash[0x1234] = 0x00;
+    rig.flash[0x1235] = 0x00;
+    let rig = command(&rig, &ranged(0x03, 0x01, 0x0000, 0x7FFF), |rig| {
+        rig.session = Session { state: 3, status: 0x05, pending: Pending::Blank(0x1234) };
+        Said(Outcome::Done, vec![], 0)
+    });
+    let rig = expect(&rig, &GETSTATUS, &[], |rig| {
+        rig.session.state = 5;
+        Said(Outcome::Done, vec![0x05, 0, 0, 0, 5, 0], 0)
+    });
+    expect(&rig, &upload(2), &[], |rig| {
+        idles(rig);
+        Said(Outcome::Done, vec![0x12, 0x34], 0)
+    });
+}
+
+#[test]
+fn case_10_ssb_fe_at_level_1() {
+    command(&Rig::new().ssb(LEVEL_1), &[0x04, 0x01, 0x05, 0xFE], sets(0x03));
+}
+
+#[test]
+fn case_11_full_erase_at_level_2() {
+    let mut rig = Rig::filled().ssb(LEVEL_2);
+    rig.config = Config { bytes: [1, 2, 3, 4, 5, LEVEL_2, 7], hsb: 8 };
+    let rig = command(&rig, &[0x04, 0x00, 0xFF], |rig| {
+        rig.flash.fill(0xFF);
+        rig.config = Config { bytes: [0xFF, 0xFC, 3, 4, 5, 0xFF, 7], hsb: 8 };
+        taken(rig, Pending::Nothing, 256)
+    });
+    assert_eq!(rig.config.level(), Level::Zero);
+}
+
+#[test]
+fn case_12_hsb() {
+    command(&Rig::new(), &[0x04, 0x02, 0x00, 0x4F], |rig| {
+        rig.config.hsb = 0x4B;
+        taken(rig, Pending::Nothing, 0)
+    });
+}
+
+// ----------------------------------------------------------------- refusals
+
+/// Lends `step` one fault for each number in `faults`.
+fn faulty(faults: &[u8]) -> (Rig, Vec<u8>, Vec<u8>) {
+    let mut rig = Rig::filled();
+    let mut setup = GETSTATE.to_vec();
+    let mut data = vec![];
+    for fault in faults {
+        match fault {
+            1 => setup.truncate(7),
+            2 => drop(rig.flash.pop()),
+            3 => rig.eeprom.push(0xFF),
+            4 => data.push(0),
+            5 => drop(rig.reply.pop()),
+            6 => rig.session.status = 0x10,
+            _ => rig.session.state = 0,
+        }
+    }
+    (rig, setup, data)
+}
+
+#[test]
+fn refusals_1_to_7_come_in_their_order() {
+    for first in 1..=7 {
+        for mask in 0..1_u8 << (7 - first) {
+            let mut faults = vec![first];
+            faults.extend((first + 1..=7).filter(|n| mask >> (n - first - 1) & 1 == 1));
+            let (rig, setup, data) = faulty(&faults);
+            expect(&rig, &setup, &data, refuses(first));
+        }
+    }
+    let (rig, setup, data) = faulty(&[]);
+    expect(&rig, &setup, &data, |_| Said(Outcome::Done, vec![2], 0));
+}
+
+#[test]
+fn refusals_1_to_3_and_5_by_length() {
+    for length in (0..=20).filter(|&n| n != 8) {
+        let mut setup = GETSTATE.to_vec();
+        setup.resize(length, 0);
+        expect(&Rig::new(), &setup, &[], refuses(1));
+    }
+    for length in [0, 1, 32_767, 32_769, 65_536] {
+        let mut rig = Rig::new();
+        rig.flash.resize(length, 0xFF);
+        expect(&rig, &GETSTATE, &[], refuses(2));
+    }
+    for length in [0, 1, 1_023, 1_025, 32_768] {
+        let mut rig = Rig::new();
+        rig.eeprom.resize(length, 0xFF);
+        expect(&rig, &GETSTATE, &[], refuses(3));
+    }
+    for length in [0, 1, 6, 1_023] {
+        let mut rig = Rig::new();
+        rig.reply.resize(length, 0xA5);
+        expect(&rig, &GETSTATE, &[], refuses(5));
+    }
+    let mut rig = Rig::new();
+    rig.reply.resize(3_000, 0xA5);
+    expect(&rig, &GETSTATE, &[], |_| Said(Outcome::Done, vec![2], 0));
+}
+
+#[test]
+fn refusal_4_looks_at_bit_7_alone() {
+    for kind in 0..=255_u8 {
+        let known = [0x21, 0xA1].contains(&kind);
+        let setup = [kind, 9, 0, 0, 0, 0, 2, 0];
+        if kind < 0x80 {
+            expect(&Rig::new(), &setup, &[], refuses(4));
+            expect(&Rig::new(), &setup, &[1], refuses(4));
+            expect(&Rig::new(), &setup, &[1, 2, 3], refuses(4));
+            expect(&Rig::new(), &setup, &[1, 2], stalls);
+        } else {
+            expect(&Rig::new(), &setup, &[1], refuses(4));
+            expect(&Rig::new(), &setup, &[1, 2], refuses(4));
+            expect(&Rig::new(), &setup, &[], stalls);
+        }
+        if !known {
+            for request in 0..=6 {
+                expect(&Rig::new(), &[kind, request, 0, 0, 0, 0, 0, 0], &[], stalls);
+            }
+        }
+    }
+}
+
+#[test]
+fn refusal_6_by_state_and_status() {
+    for state in 0..=255 {
+        let rig = Rig::new().at(state, 0, Pending::Nothing);
+        match state {
+            0 => drop(expect(&rig, &GETSTATE, &[], refuses(7))),
+            2 | 3 | 5 | 6 | 9 | 10 => {
+                expect(&rig, &GETSTATE, &[], |_| Said(Outcome::Done, vec![state], 0));
+            }
+            _ => drop(expect(&rig, &GETSTATE, &[], refuses(6))),
+        }
+    }
+    for status in 0..=255 {
+        for state in STATES {
+            let rig = Rig::new().at(state, status, Pending::Nothing);
+            if status <= 0x0F {
+                expect(&rig, &GETSTATE, &[], |_| Said(Outcome::Done, vec![state], 0));
+            } else {
+                expect(&rig, &GETSTATE, &[], refuses(6));
+            }
+        }
+        let number = if status <= 0x0F { 7 } else { 6 };
+        expect(&Rig::new().at(0, status, Pending::Nothing), &GETSTATE, &[], refuses(number));
+    }
+}
+
+#[test]
+fn refusal_6_by_what_is_pending() {
+    let flash = |start, end| Pending::Read { memory: Memory::Flash, start, end };
+    let eeprom = |start, end| Pending::Read { memory: Memory::Eeprom, start, end };
+    let start = |kind, address| Pending::Start { kind, address };
+    let sound = [
+        flash(0, 0),
+        flash(0, 0x03FF),
+        flash(0x7C00, 0x7FFF),
+        flash(0x7FFF, 0x7FFF),
+        eeprom(0, 0x03FF),
+        eeprom(0x03FF, 0x03FF),
+        Pending::Blank(0),
+        Pending::Blank(0x7FFF),
+        start(StartKind::Reset, 0),
+        start(StartKind::Reset, 0x7FFF),
+        start(StartKind::Jump, 0x7FFF),
+    ];
+    let unsound = [
+        flash(1, 0),
+        flash(0, 0x0400),
+        flash(0x7C00, 0x8000),
+        flash(0x8000, 0x8000),
+        flash(0x7FFF, 0x8000),
+        flash(0xFFFF, 0),
+        flash(0, 0xFFFF),
+        flash(0xFFFF, 0xFFFF),
+        eeprom(1, 0),
+        eeprom(0, 0x0400),
+        eeprom(0x0400, 0x0400),
+        eeprom(0x0400, 0x03FF),
+        eeprom(0xFFFF, 0xFFFF),
+        Pending::Blank(0x8000),
+        Pending::Blank(0xFFFF),
+        start(StartKind::Reset, 0x8000),
+        start(StartKind::Jump, 0x8000),
+        start(StartKind::Jump, 0xFFFF),
+    ];
+    for state in STATES {
+        for pending in sound {
+            let rig = Rig::new().at(state, 0, pending);
+            expect(&rig, &GETSTATE, &[], |_| Said(Outcome::Done, vec![state], 0));
+        }
+        for pending in unsound {
+            let rig = Rig::new().at(state, 0, pending);
+            for setup in [GETSTATE, GETSTATUS, CLRSTATUS, ABORT, DETACH, upload(1)] {
+                expect(&rig, &setup, &[], refuses(6));
+            }
+        }
+    }
+    for pending in unsound {
+        expect(&Rig::new().at(0, 0, pending), &GETSTATE, &[], refuses(6));
+    }
+}
+
+#[test]
+fn refusal_7_for_every_request() {
+    for pending in pendings() {
+        let rig = Rig::filled().at(0, 3, pending);
+        for setup in [GETSTATE, GETSTATUS, CLRSTATUS, ABORT, DETACH, upload(9), dnload(0)] {
+            expect(&rig, &setup, &[], refuses(7));
+        }
+        command(&rig, &[0x04, 0x00, 0xFF], refuses(7));
+    }
+}
+
+// ----------------------------------------------------- requests, row by row
+
+#[test]
+fn power_up_is_state_2_and_nothing_pending() {
+    for pending in pendings() {
+        for state in 0..=255 {
+            let mut session = Session { state, status: 0x77, pending };
+            power_up(&mut session);
+            assert_eq!(session, Session { state: 2, status: 0, pending: Pending::Nothing });
+        }
+    }
+}
+
+#[test]
+fn getstatus_rows() {
+    for (state, entered) in [(2, 2), (3, 5), (5, 5), (6, 2), (9, 9), (10, 10)] {
+        for pending in pendings() {
+            for status in 0..=0x0F {
+                let rig = Rig::new().at(state, status, pending);
+                expect(&rig, &GETSTATUS, &[], |rig| {
+                    rig.session.state = entered;
+                    Said(Outcome::Done, vec![status, 0, 0, 0, entered, 0], 0)
+                });
+            }
+        }
+    }
+}
+
+#[test]
+fn getstate_rows() {
+    for state in STATES {
+        for pending in pendings() {
+            let rig = Rig::new().at(state, 5, pending);
+            expect(&rig, &GETSTATE, &[], |_| Said(Outcome::Done, vec![state], 0));
+        }
+    }
+}
+
+#[test]
+fn clrstatus_and_abort_and_detach_rows() {
+    for state in STATES {
+        for pending in pendings() {
+            let rig = Rig::new().at(state, 3, pending);
+            if state == 10 {
+                expect(&rig, &CLRSTATUS, &[], idles);
+                expect(&rig, &ABORT, &[], stalls);
+            } else {
+                expect(&rig, &CLRSTATUS, &[], stalls);
+                expect(&rig, &ABORT, &[], idles);
+            }
+            expect(&rig, &DETACH, &[], stalls);
+            expect(&rig, &[0x21, 0, 0x10, 0, 0, 0, 0, 0], &[], stalls);
+        }
+    }
+}
+
+#[test]
+fn a_stall_in_state_10_keeps_the_status() {
+    for status in 0..=0x0F {
+        for pending in pendings() {
+            let rig = Rig::new().at(10, status, pending);
+            expect(&rig, &DETACH, &[], |rig| {
+                rig.session.pending = Pending::Nothing;
+                Said(Outcome::Stall, vec![], 0)
+            });
+            let rig = Rig::new().at(9, status, pending);
+            expect(&rig, &DETACH, &[], |rig| {
+                rig.session = Session { state: 10, status: 0x0F, pending: Pending::Nothing };
+                Said(Outcome::Stall, vec![], 0)
+            });
+        }
+    }
+}
+
+/// The seven requests, each with one field off.
+#[test]
+fn every_other_setup_stalls() {
+    for request in 0..=255_u8 {
+        let with_21 = [0, 1, 4, 6].contains(&request);
+        let with_a1 = [2, 3, 5].contains(&request);
+        for length in [0, 1, 6] {
+            if !with_21 {
+                let setup = [0x21, request, 0, 0, 0, 0, length, 0];
+                expect(&Rig::new(), &setup, &vec![0; length.into()], stalls);
+            }
+            if !with_a1 {
+                expect(&Rig::new(), &[0xA1, request, 0, 0, 0, 0, length, 0], &[], stalls);
+            }
+        }
+    }
+    let rig = Rig::new().at(5, 0, Pending::Byte(1));
+    for right in [GETSTATUS, GETSTATE, ABORT] {
+        for place in 2..=7 {
+            for bit in 0..8 {
+                let mut setup = right;
+                setup[place] ^= 1 << bit;
+                let data = if setup[0] == 0x21 {
+                    vec![0; u16::from_le_bytes([setup[6], setup[7]]).into()]
+                } else {
+                    vec![]
+                };
+                expect(&rig, &setup, &data, stalls);
+            }
+        }
+    }
+}
+
+#[test]
+fn wvalue_is_not_looked_at_in_dnload_and_upload_but_windex_is() {
+    let rig = Rig::new().at(5, 0, Pending::Byte(0x77));
+    for value in [0x0001, 0x0100, 0xFFFF_u16] {
+        let [low, high] = value.to_le_bytes();
+        expect(&rig, &[0xA1, 2, low, high, 0, 0, 1, 0], &[], |rig| {
+            idles(rig);
+            Said(Outcome::Done, vec![0x77], 0)
+        });
+        expect(&rig, &[0x21, 1, low, high, 0, 0, 3, 0], &[0x05, 0x00, 0x00], |rig| {
+            taken(rig, Pending::Byte(0x12), 0)
+        });
+        expect(&rig, &[0xA1, 2, 0, 0, low, high, 1, 0], &[], stalls);
+        expect(&rig, &[0x21, 1, 0, 0, low, high, 3, 0], &[0x05, 0x00, 0x00], stalls);
+        let rig = Rig::new().at(10, 3, Pending::Nothing);
+        expect(&rig, &[0x21, 4, low, high, 0, 0, 0, 0], &[], stalls);
+        expect(&rig, &[0x21, 4, 0, 0, low, high, 0, 0], &[], stalls);
+    }
+}
+
+#[test]
+fn dnload_of_nothing_rows() {
+    for state in STATES {
+        for pending in pendings() {
+            let rig = Rig::new().at(state, 4, pending);
+            match (state, pending) {
+                (3 | 5, Pending::Start { kind, address }) => {
+                    expect(&rig, &dnload(0), &[], |rig| {
+                        rig.session = Session { state: 0, status: 4, pending: Pending::Nothing };
+                        Said(Outcome::Start { kind, address }, vec![], 0)
+                    });
+                }
+                (5, _) => {
+                    expect(&rig, &dnload(0), &[], |rig| {
+                        rig.session = Session { state: 6, status: 4, pending: Pending::Nothing };
+                        Said(Outcome::Done, vec![], 0)
+                    });
+                }
+                _ => drop(expect(&rig, &dnload(0), &[], stalls)),
+            }
+        }
+    }
+}
+
+#[test]
+fn dnload_of_a_command_rows() {
+    for state in STATES {
+        for pending in pendings() {
+            let rig = Rig::new().at(state, 4, pending);
+            if state == 2 || state == 5 {
+                command(&rig, &[0x05, 0x01, 0x02], |rig| taken(rig, Pending::Byte(0xFE), 0));
+                command(&rig, &[0x04, 0x00, 0x20], |rig| taken(rig, Pending::Nothing, 64));
+                command(&rig, &[0x04, 0x01, 0x05, 0x00], sets(0x03));
+                command(&rig, &[0x77], stalls);
+            } else {
+                command(&rig, &[0x05, 0x01, 0x02], stalls);
+                command(&rig, &[0x04, 0x01, 0x05, 0x00], stalls);
+            }
+        }
+    }
+}
+
+#[test]
+fn dnload_lengths_1103_and_1104() {
+    let bytes = [0x33; 1_024];
+    let longest = transfer(0, 0x001F, 0x041E, &bytes, 0);
+    assert_eq!(longest.len(), 1_103);
+    command(&Rig::new(), &longest, |rig| {
+        rig.flash[0x001F..=0x041E].fill(0x33);
+        taken(rig, Pending::Nothing, 9)
+    });
+    let mut beyond = longest.clone();
+    beyond.push(0);
+    command(&Rig::new(), &beyond, stalls);
+    // Neither the level nor the address is looked at past 1,103 bytes.
+    command(&Rig::new().ssb(LEVEL_1), &beyond, stalls);
+    command(&Rig::new().ssb(LEVEL_1), &longest, sets(0x03));
+    let mut wrong = transfer(0, 0x0001, 0x0000, &bytes, 0);
+    wrong.resize(1_103, 0);
+    command(&Rig::new(), &wrong, sets(0x08));
+    wrong.resize(1_104, 0);
+    command(&Rig::new(), &wrong, stalls);
+    wrong.resize(65_535, 0);
+    command(&Rig::new(), &wrong, stalls);
+}
+
+// ------------------------------------------------------------------ uploads
+
+#[test]
+fn upload_rows() {
+    for state in STATES {
+        for pending in pendings() {
+            for ssb in [LEVEL_0, LEVEL_1, LEVEL_2, 0x00] {
+                let rig = Rig::filled().at(state, 5, pending).ssb(ssb);
+                expect(&rig, &upload(0), &[], stalls);
+                let whole = match pending {
+                    Pending::Read { .. } if ssb == LEVEL_2 => None,
+                    Pending::Read { memory: Memory::Flash, start, end } => {
+                        Some(rig.flash[start.into()..=end.into()].to_vec())
+                    }
+                    Pending::Read { memory: Memory::Eeprom, start, end } => {
+                        Some(rig.eeprom[start.into()..=end.into()].to_vec())
+                    }
+                    Pending::Blank(address) => Some(address.to_be_bytes().to_vec()),
+                    Pending::Byte(value) => Some(vec![value]),
+                    Pending::Nothing | Pending::Start { .. } => None,
+                };
+                for length in [1_024, 1_025, 0xFFFF] {
+                    match &whole {
+                        Some(whole) if state == 5 || state == 9 => {
+                            expect(&rig, &upload(length), &[], |rig| {
+                                idles(rig);
+                                Said(Outcome::Done, whole.clone(), 0)
+                            });
+                        }
+                        _ => drop(expect(&rig, &upload(length), &[], stalls)),
+                    }
+                }
+            }
+        }
+    }
+}
+
+#[test]
+fn a_memory_read_in_parts() {
+    let read = |start, end| Pending::Read { memory: Memory::Flash, start, end };
+    let rig = command(&Rig::filled(), &ranged(0x03, 0x00, 0x7F00, 0x7FFF), |rig| {
+        taken(rig, read(0x7F00, 0x7FFF), 0)
+    });
+    expect(&rig, &upload(1), &[], stalls);
+    let rig = expect(&rig, &GETSTATUS, &[], |rig| {
+        rig.session.state = 5;
+        Said(Outcome::Done, vec![0, 0, 0, 0, 5, 0], 0)
+    });
+    let rig = expect(&rig, &upload(1), &[], |rig| {
+        rig.session = Session { state: 9, status: 0, pending: read(0x7F01, 0x7FFF) };
+        Said(Outcome::Done, vec![rig.flash[0x7F00]], 0)
+    });
+    let rig = expect(&rig, &upload(254), &[], |rig| {
+        rig.session = Session { state: 9, status: 0, pending: read(0x7FFF, 0x7FFF) };
+        Said(Outcome::Done, rig.flash[0x7F01..=0x7FFE].to_vec(), 0)
+    });
+    let rig = expect(&rig, &GETSTATUS, &[], |_| Said(Outcome::Done, vec![0, 0, 0, 0, 9, 0], 0));
+    let rig = expect(&rig, &upload(2), &[], |rig| {
+        idles(rig);
+        Said(Outcome::Done, vec![rig.flash[0x7FFF]], 0)
+    });
+    expect(&rig, &upload(2), &[], stalls);
+}
+
+#[test]
+fn an_eeprom_read_in_parts_of_every_size() {
+    for part in [1, 2, 3, 31, 32, 64, 511, 512, 1_000, 1_023, 1_024] {
+        let pending = Pending::Read { memory: Memory::Eeprom, start: 0, end: 0x03FF };
+        let mut rig = Rig::filled().at(5, 0, pending);
+        let mut all = vec![];
+        while rig.session.state != 2 {
+            let answer = rig.send(&upload(part), &[]);
+            assert_eq!(answer.outcome, Outcome::Done);
+            all.extend_from_slice(rig.sent(&answer));
+            assert_eq!(rig.session.state, if all.len() < 1_024 { 9 } else { 2 });
+        }
+        assert_eq!(all, rig.eeprom);
+    }
+}
+
+#[test]
+fn a_blank_report_in_two_parts() {
+    for state in [5, 9] {
+        let rig = Rig::new().at(state, 5, Pending::Blank(0x1234)).ssb(LEVEL_2);
+        let rig = expect(&rig, &upload(1), &[], |rig| {
+            rig.session = Session { state: 9, status: 0, pending: Pending::Byte(0x34) };
+            Said(Outcome::Done, vec![0x12], 0)
+        });
+        let rig = expect(&rig, &upload(1), &[], |rig| {
+            idles(rig);
+            Said(Outcome::Done, vec![0x34], 0)
+        });
+        expect(&rig, &upload(1), &[], stalls);
+    }
+}
+
+#[test]
+fn the_pending_byte_was_fixed_when_the_command_was_accepted() {
+    let mut rig =
+        command(&Rig::new(), &[0x05, 0x01, 0x06], |rig| taken(rig, Pending::Byte(0xFF), 0));
+    rig.config.bytes[6] = 0x00;
+    rig.session.state = 5;
+    expect(&rig, &upload(8), &[], |rig| {
+        idles(rig);
+        Said(Outcome::Done, vec![0xFF], 0)
+    });
+}
+
+/// "Clearing a refused write's status at a request other than CLRSTATUS."
+#[test]
+fn a_refused_write_keeps_its_status_until_clrstatus() {
+    let mut rig = command(&Rig::new().ssb(LEVEL_1), &[0x04, 0x00, 0x00], sets(0x03));
+    for setup in [ABORT, DETACH, upload(1), dnload(0)] {
+        rig = expect(&rig, &setup, &[], |_| Said(Outcome::Stall, vec![], 0));
+        rig = expect(&rig, &GETSTATUS, &[], |_| Said(Outcome::Done, vec![0x03, 0, 0, 0, 10, 0], 0));
+    }
+    rig = command(&rig, &[0x05, 0x00, 0x00], |_| Said(Outcome::Stall, vec![], 0));
+    expect(&rig, &CLRSTATUS, &[], idles);
+}
+
+// ------------------------------------------------------------------- levels
+
+#[test]
+fn ssb_values_and_levels() {
+    for ssb in 0..=255 {
+        let level = match ssb {
+            0xFE => Level::One,
+            0xFC => Level::Two,
+            _ => Level::Zero,
+        };
+        assert_eq!(Rig::new().ssb(ssb).config.level(), level);
+    }
+}
+
+/// The first row of the table, and the fourth, for each level.
+#[test]
+fn level_cells_of_memory_writes_and_the_free_commands() {
+    for (ssb, level) in [(0xFF, 0), (0x00, 0), (0xFD, 0), (0x7F, 0), (0xFE, 1), (0xFC, 2)] {
+        let rig = Rig::new().ssb(ssb);
+        let writes = [
+            transfer(0, 0x0100, 0x0101, &[0xFF, 0xFF], 9),
+            transfer(1, 0x0100, 0x0101, &[0xFF, 0xFF], 9),
+            vec![0x04, 0x00, 0x00],
+            vec![0x04, 0x00, 0x20],
+            vec![0x04, 0x00, 0x40],
+            vec![0x04, 0x02, 0x00, 0xB0],
+        ];
+        for (payload, pages) in writes.iter().zip([1, 0, 64, 64, 128, 0]) {
+            if level == 0 {
+                command(&rig, payload, |rig| taken(rig, Pending::Nothing, pages));
+            } else {
+                command(&rig, payload, sets(0x03));
+            }
+        }
+        for index in [0, 1, 2, 3, 4, 6_u8] {
+            command(&rig, &[0x04, 0x01, index, 0x5A], |rig| {
+                rig.config.bytes[usize::from(index)] = 0x5A;
+                taken(rig, Pending::Nothing, 0)
+            });
+        }
+        command(&rig, &ranged(0x03, 0x01, 0, 0x7FFF), |rig| taken(rig, Pending::Nothing, 0));
+        command(&rig, &[0x04, 0x00, 0xFF], |rig| {
+            rig.config.bytes[5] = 0xFF;
+            taken(rig, Pending::Nothing, 256)
+        });
+        let reset = Pending::Start { kind: StartKind::Reset, address: 0 };
+        command(&rig, &[0x04, 0x03, 0x00], |rig| taken(rig, reset, 0));
+        let jump = Pending::Start { kind: StartKind::Jump, address: 0x1234 };
+        command(&rig, &[0x04, 0x03, 0x01, 0x12, 0x34], |rig| taken(rig, jump, 0));
+    }
+}
+
+#[test]
+fn level_cells_of_reads() {
+    for (ssb, level) in [(0xFF, 0), (0x00, 0), (0xFD, 0), (0xFE, 1), (0xFC, 2)] {
+        let rig = Rig::new().ssb(ssb);
+        let pend = |memory| Pending::Read { memory, start: 0, end: 0xFF };
+        let reads = [
+            (ranged(0x03, 0x00, 0, 0xFF), pend(Memory::Flash)),
+            (ranged(0x03, 0x02, 0, 0xFF), pend(Memory::Eeprom)),
+            (vec![0x05, 0x02, 0x00], Pending::Byte(0xBB)),
+        ];
+        for (payload, pending) in reads {
+            if level == 2 {
+                command(&rig, &payload, sets(0x0B));
+            } else {
+                command(&rig, &payload, |rig| taken(rig, pending, 0));
+            }
+        }
+        let bytes = [
+            (0x00, 0xFF),
+            (0x01, 0xFC),
+            (0x02, 0xFE),
+            (0x03, 0xFF),
+            (0x04, 0xFF),
+            (0x05, ssb),
+            (0x06, 0xFF),
+            (0x30, 0x58),
+            (0x31, 0xD7),
+            (0x60, 0xF7),
+            (0x61, 0xDF),
+        ];
+        for (index, value) in bytes {
+            command(&rig, &[0x05, 0x01, index], |rig| taken(rig, Pending::Byte(value), 0));
+        }
+        command(&rig, &[0x05, 0x00, 0x00], |rig| taken(rig, Pending::Byte(0x12), 0));
+    }
+}
+
+#[test]
+fn level_cells_of_writing_ssb() {
+    for ssb in 0..=255 {
+        for value in 0..=255 {
+            let yes = match ssb {
+                0xFC => false,
+                0xFE => value == 0xFC,
+                _ => value == 0xFE || value == 0xFC,
+            };
+            let mut session = Rig::new().session;
+            let mut config = Rig::new().ssb(ssb).config;
+            let (mut flash, mut eeprom, mut reply) = small_board();
+            let payload = [0x04, 0x01, 0x05, value];
+            let setup = dnload(4);
+            step(&mut session, &mut config, &setup, &payload, &mut flash, &mut eeprom, &mut reply);
+            let (state, status) = if yes { (3, 0x00) } else { (10, 0x03) };
+            assert_eq!(session, Session { state, status, pending: Pending::Nothing });
+            assert_eq!(config.bytes[5], if yes { value } else { ssb });
+        }
+    }
+}
+
+fn small_board() -> ([u8; 32_768], [u8; 1_024], [u8; 1_024]) {
+    ([0xFF; 32_768], [0xFF; 1_024], [0; 1_024])
+}
+
+#[test]
+fn write_configuration_bytes_and_hsb_in_full() {
+    let rig = Rig::new();
+    for index in 0..=6_u8 {
+        let values = [0x00, 0x5A, 0xFC, 0xFE];
+        for value in values.into_iter().filter(|v| index != 5 || *v >= 0xFC) {
+            command(&rig, &[0x04, 0x01, index, value], |rig| {
+                rig.config.bytes[usize::from(index)] = value;
+                taken(rig, Pending::Nothing, 0)
+            });
+        }
+    }
+    for (old, value, new) in [
+        (0xBB, 0x4F, 0x4B),
+        (0xBB, 0x00, 0x0B),
+        (0xBB, 0xFF, 0xFB),
+        (0x00, 0xFF, 0xF0),
+        (0xFF, 0x00, 0x0F),
+        (0x5A, 0xA5, 0xAA),
+    ] {
+        let mut rig = Rig::new();
+        rig.config.hsb = old;
+        command(&rig, &[0x04, 0x02, 0x00, value], |rig| {
+            rig.config.hsb = new;
+            taken(rig, Pending::Nothing, 0)
+        });
+    }
+}
+
+// --------------------------------------------------------- form and address
+
+#[test]
+fn order_form_level_address_length() {
+    let at = |ssb| Rig::new().ssb(ssb);
+    for ssb in [LEVEL_0, LEVEL_1, LEVEL_2] {
+        // Form first, even where the level would say no and the address is bad.
+        command(&at(ssb), &[0x01, 0x00, 0xFF, 0xFF, 0x00], stalls);
+        command(&at(ssb), &[0x01, 0x02, 0xFF, 0xFF, 0x00, 0x00], stalls);
+        command(&at(ssb), &[0x03, 0x00, 0xFF, 0xFF, 0x00, 0x00, 0x00], stalls);
+        command(&at(ssb), &[0x03, 0x03, 0xFF, 0xFF, 0x00, 0x00], stalls);
+        command(&at(ssb), &[0x04, 0x01, 0x07, 0x00], stalls);
+        command(&at(ssb), &[0x04, 0x02, 0x01, 0x00], stalls);
+        command(&at(ssb), &[0x04, 0x00, 0x10], stalls);
+    }
+    // Level before address.
+    command(&at(LEVEL_1), &ranged(0x01, 0x00, 2, 1), sets(0x03));
+    command(&at(LEVEL_2), &transfer(1, 0x0400, 0x0400, &[0], 0), sets(0x03));
+    command(&at(LEVEL_2), &ranged(0x03, 0x00, 0x8000, 0x8000), sets(0x0B));
+    command(&at(LEVEL_2), &ranged(0x03, 0x02, 0x0400, 0x0400), sets(0x0B));
+    command(&at(LEVEL_1), &ranged(0x03, 0x00, 0x8000, 0x8000), sets(0x08));
+    // Level before the whole length: six bytes are form enough.
+    command(&at(LEVEL_1), &ranged(0x01, 0x00, 1, 1), sets(0x03));
+    // Address before the whole length.
+    command(&at(LEVEL_0), &ranged(0x01, 0x00, 2, 1), sets(0x08));
+    command(&at(LEVEL_0), &ranged(0x01, 0x01, 0, 0x0400), sets(0x08));
+    command(&at(LEVEL_0), &ranged(0x01, 0x00, 1, 1), stalls);
+}
+
+#[test]
+fn address_boundaries() {
+    let rig = Rig::new();
+    for (sub, memory, last) in [(0x00, Memory::Flash, 0x7FFF_u16), (0x02, Memory::Eeprom, 0x03FF)] {
+        let read = |start, end| ranged(0x03, sub, start, end);
+        for (start, end) in [(0, 0), (last, last), (0, 0x03FF), (last - 0x03FF, last)] {
+            command(&rig, &read(start, end), |rig| {
+                taken(rig, Pending::Read { memory, start, end }, 0)
+            });
+        }
+        for (start, end) in [
+            (1, 0),
+            (last + 1, last + 1),
+            (last, last + 1),
+            (0, 0x0400),
+            (0xFFFF, 0xFFFF),
+            (0, 0xFFFF),
+            (0xFFFF, 0),
+        ] {
+            command(&rig, &read(start, end), sets(0x08));
+            let code = if memory == Memory::Flash { 0 } else { 1 };
+            command(&rig, &transfer(code, start, end, &[0], 0), sets(0x08));
+        }
+    }
+    for (start, end) in [(0, 0x7FFF), (0, 0x0400), (0x7FFF, 0x7FFF), (0, 0)] {
+        command(&rig, &ranged(0x03, 0x01, start, end), |rig| taken(rig, Pending::Nothing, 0));
+    }
+    for (start, end) in [(1, 0), (0, 0x8000), (0x8000, 0x8000), (0xFFFF, 0xFFFF)] {
+        command(&rig, &ranged(0x03, 0x01, start, end), sets(0x08));
+    }
+    let jump = Pending::Start { kind: StartKind::Jump, address: 0x7FFF };
+    command(&rig, &[0x04, 0x03, 0x01, 0x7F, 0xFF], |rig| taken(rig, jump, 0));
+    command(&rig, &[0x04, 0x03, 0x01, 0x80, 0x00], sets(0x08));
+    command(&rig, &[0x04, 0x03, 0x01, 0xFF, 0xFF], sets(0x08));
+}
+
+/// Every payload of up to three bytes, and which of them the table lists.
+#[test]
+fn forms_of_three_bytes_and_fewer() {
+    assert_eq!(read_command(&[]), Reading::Stall);
+    let mut listed = 0;
+    for first in 0..=255 {
+        assert_eq!(read_command(&[first]), Reading::Stall);
+        for second in 0..=255 {
+            assert_eq!(read_command(&[first, second]), Reading::Stall);
+            for third in 0..=255 {
+                let want = match (first, second, third) {
+                    (4, 0, 0x00) => Command::EraseBlock(Block::First),
+                    (4, 0, 0x20) => Command::EraseBlock(Block::Second),
+                    (4, 0, 0x40) => Command::EraseBlock(Block::Third),
+                    (4, 0, 0xFF) => Command::EraseAll,
+                    (4, 3, 0) => Command::StartReset,
+                    (5, 0, 0) => Command::ReadVersion,
+                    (5, 1, 0..=6 | 0x30 | 0x31 | 0x60 | 0x61) => Command::ReadByte(third),
+                    (5, 2, 0) => Command::ReadHsb,
+                    _ => {
+                        assert_eq!(read_command(&[first, second, third]), Reading::Stall);
+                        continue;
+                    }
+                };
+                listed += 1;
+                assert_eq!(
+                    read_command(&[first, second, third]),
+                    Reading::Command(want, 0..0, 0..0)
+                );
+            }
+        }
+    }
+    assert_eq!(listed, 4 + 1 + 1 + 11 + 1);
+}
+
+#[test]
+fn forms_of_four_and_five_bytes() {
+    for first in 0..=255 {
+        for second in 0..=255 {
+            for third in 0..=255 {
+                let payload = [first, second, third, 0x5A, 0xA5];
+                let want = match (first, second, third) {
+                    (4, 1, 0..=6) => Some(Command::WriteByte { index: third, value: 0x5A }),
+                    (4, 2, 0) => Some(Command::WriteHsb(0x5A)),
+                    _ => None,
+                };
+                let want = want.map_or(Reading::Stall, |c| Reading::Command(c, 0..0, 0..0));
+                assert_eq!(read_command(&payload[..4]), want);
+                let want = match (first, second, third) {
+                    (4, 3, 1) => Reading::Command(Command::StartAt(0x5AA5), 0..0, 0..0),
+                    _ => Reading::Stall,
+                };
+                assert_eq!(read_command(&payload), want);
+            }
+        }
+    }
+    assert_eq!(read_command(&[4, 3, 1, 0x80, 0x00]), Reading::Status08);
+    assert_eq!(read_command(&[4, 3, 0, 0x00, 0x00]), Reading::Stall);
+}
+
+#[test]
+fn forms_of_six_bytes_and_more() {
+    let (start, end) = (0x0102, 0x0203);
+    for first in 0..=255 {
+        for second in 0..=255 {
+            let payload = ranged(first, second, start, end);
+            let want = match (first, second) {
+                (3, 0) => Command::Read { memory: Memory::Flash, start, end },
+                (3, 1) => Command::BlankCheck { start, end },
+                (3, 2) => Command::Read { memory: Memory::Eeprom, start, end },
+                _ => {
+                    assert_eq!(read_command(&payload), Reading::Stall);
+                    continue;
+                }
+            };
+            assert_eq!(read_command(&payload), Reading::Command(want, 0..0, 0..0));
+            let longer = [&payload[..], &[0]].concat();
+            assert_eq!(read_command(&longer), Reading::Stall);
+        }
+    }
+}
+
+#[test]
+fn the_reader_cuts_a_program_transfer() {
+    for (code, memory) in [(0, Memory::Flash), (1, Memory::Eeprom)] {
+        let payload = transfer(code, 0x00AF, 0x00B3, b"hello", 0x99);
+        let want = Command::Program { memory, start: 0x00AF, end: 0x00B3 };
+        assert_eq!(read_command(&payload), Reading::Command(want, 47..52, 52..68));
+        for length in (6..payload.len()).chain([payload.len() + 1]) {
+            let mut other = payload.clone();
+            other.resize(length, 0);
+            assert_eq!(read_command(&other), Reading::Stall, "{length}");
+        }
+        assert_eq!(read_command(&payload[..5]), Reading::Stall);
+    }
+    // Address before whole length, and no level.
+    assert_eq!(read_command(&ranged(1, 0, 1, 0)), Reading::Status08);
+    assert_eq!(read_command(&ranged(1, 2, 1, 0)), Reading::Stall);
+    assert_eq!(read_command(&[1, 0, 0, 1, 0]), Reading::Stall);
+    let write = Command::WriteByte { index: 5, value: 0x00 };
+    assert_eq!(read_command(&[4, 1, 5, 0]), Reading::Command(write, 0..0, 0..0));
+}
+
+// -------------------------------------------------- programming and erasing
+
+#[test]
+fn programming_flash_stores_its_range_and_counts_its_pages() {
+    for (start, end, pages) in [
+        (0x0000, 0x0000, 1),
+        (0x0000, 0x007F, 1),
+        (0x0000, 0x0080, 2),
+        (0x007F, 0x0080, 2),
+        (0x007F, 0x0100, 3),
+        (0x0080, 0x00FF, 1),
+        (0x0000, 0x03FF, 8),
+        (0x0001, 0x0400, 9),
+        (0x007F, 0x047E, 9),
+        (0x7C00, 0x7FFF, 8),
+        (0x7BFF, 0x7FFE, 9),
+        (0x7FFF, 0x7FFF, 1),
+    ] {
+        let bytes = Xorshift(u64::from(start) + 1).bytes(usize::from(end - start) + 1);
+        for waste in [0x00, 0xC3] {
+            command(&Rig::filled(), &transfer(0, start, end, &bytes, waste), |rig| {
+                rig.flash[start.into()..=end.into()].copy_from_slice(&bytes);
+                taken(rig, Pending::Nothing, pages)
+            });
+        }
+    }
+}
+
+#[test]
+fn programming_eeprom_stores_its_range_and_no_page() {
+    for (start, end) in [(0, 0), (0, 0x03FF), (0x007F, 0x0080), (0x03FF, 0x03FF)] {
+        let bytes = Xorshift(5).bytes(usize::from(end - start) + 1);
+        command(&Rig::filled(), &transfer(1, start, end, &bytes, 0xC3), |rig| {
+            rig.eeprom[start.into()..=end.into()].copy_from_slice(&bytes);
+            taken(rig, Pending::Nothing, 0)
+        });
+    }
+}
+
+#[test]
+fn block_erases() {
+    for (code, from, past, pages) in
+        [(0x00, 0x0000, 0x2000, 64), (0x20, 0x2000, 0x4000, 64), (0x40, 0x4000, 0x8000, 128)]
+    {
+        let mut rig = Rig::filled();
+        rig.config.bytes[0] = 0x00;
+        command(&rig, &[0x04, 0x00, code], |rig| {
+            rig.flash[from..past].fill(0xFF);
+            taken(rig, Pending::Nothing, pages)
+        });
+    }
+}
+
+#[test]
+fn blank_checks() {
+    let mut rig = Rig::new();
+    rig.flash[0x0000] = 0xFE;
+    rig.flash[0x1234] = 0x7F;
+    rig.flash[0x7FFF] = 0x00;
+    rig.eeprom.fill(0);
+    let finds = |start, end, address| {
+        let want = |rig: &mut Rig| {
+            rig.session = Session { state: 3, status: 0x05, pending: Pending::Blank(address) };
+            Said(Outcome::Done, vec![], 0)
+        };
+        command(&rig, &ranged(0x03, 0x01, start, end), want);
+    };
+    finds(0x0000, 0x7FFF, 0x0000);
+    finds(0x0000, 0x0000, 0x0000);
+    finds(0x0001, 0x1234, 0x1234);
+    finds(0x1234, 0x1234, 0x1234);
+    finds(0x1234, 0x7FFF, 0x1234);
+    finds(0x1235, 0x7FFF, 0x7FFF);
+    finds(0x7FFF, 0x7FFF, 0x7FFF);
+    for (start, end) in [(0x0001, 0x1233), (0x1235, 0x7FFE), (0x0001, 0x0001)] {
+        command(&rig, &ranged(0x03, 0x01, start, end), |rig| taken(rig, Pending::Nothing, 0));
+    }
+}
+
+/// Every place of a byte not FFh around the edges of the range.
+#[test]
+fn blank_check_finds_the_first_anywhere() {
+    let mut rig = Rig::new();
+    for (start, end) in [(0x0000_u16, 0x01FF_u16), (0x0105, 0x0301), (0x7E01, 0x7FFF)] {
+        for place in start.saturating_sub(3)..=end.saturating_add(3).min(0x7FFF) {
+            rig.flash[usize::from(place)] = 0xEF;
+            rig.session = Session { state: 2, status: 0, pending: Pending::Nothing };
+            rig.send(&dnload(6), &ranged(0x03, 0x01, start, end));
+            let inside = start <= place && place <= end;
+            let pending = if inside { Pending::Blank(place) } else { Pending::Nothing };
+            let status = if inside { 0x05 } else { 0x00 };
+            assert_eq!(rig.session, Session { state: 3, status, pending });
+            rig.flash[usize::from(place)] = 0xFF;
+        }
+    }
+}
+
+// --------------------------------------------------------------- the writer
+
+/// Writes into a marked room of that length and checks what is past the answer.
+#[track_caller]
+fn written(command: Command, data: &[u8], suffix: &[u8], length: usize) -> Result<Vec<u8>, u8> {
+    let mut room = vec![0xA5; length];
+    let answer = write_command(command, data, suffix, &mut room);
+    let used = answer.unwrap_or(0);
+    assert!(room[used..].iter().all(|&b| b == 0xA5), "room past the answer was written");
+    room.truncate(used);
+    answer.map(|_| room)
+}
+
+#[test]
+fn the_writer_writes_the_table() {
+    let (flash, eeprom) = (Memory::Flash, Memory::Eeprom);
+    let listed: [(Command, &[u8]); 15] = [
+        (Command::Read { memory: flash, start: 0x0102, end: 0x0304 }, &[3, 0, 1, 2, 3, 4]),
+        (Command::Read { memory: eeprom, start: 0x0102, end: 0x0304 }, &[3, 2, 1, 2, 3, 4]),
+        (Command::BlankCheck { start: 0x0102, end: 0x7FFF }, &[3, 1, 1, 2, 0x7F, 0xFF]),
+        (Command::EraseBlock(Block::First), &[4, 0, 0]),
+        (Command::EraseBlock(Block::Second), &[4, 0, 0x20]),
+        (Command::EraseBlock(Block::Third), &[4, 0, 0x40]),
+        (Command::EraseAll, &[4, 0, 0xFF]),
+        (Command::WriteByte { index: 6, value: 0x77 }, &[4, 1, 6, 0x77]),
+        (Command::WriteHsb(0x4F), &[4, 2, 0, 0x4F]),
+        (Command::StartReset, &[4, 3, 0]),
+        (Command::StartAt(0x7FFE), &[4, 3, 1, 0x7F, 0xFE]),
+        (Command::ReadVersion, &[5, 0, 0]),
+        (Command::ReadByte(0x06), &[5, 1, 6]),
+        (Command::ReadByte(0x61), &[5, 1, 0x61]),
+        (Command::ReadHsb, &[5, 2, 0]),
+    ];
+    for (command, bytes) in listed {
+        for (data, suffix) in [(&[][..], &[][..]), (&[1; 99], &[2; 3])] {
+            assert_eq!(written(command, data, suffix, bytes.len()).as_deref(), Ok(bytes));
+            assert_eq!(written(command, data, suffix, 500).as_deref(), Ok(bytes));
+            for short in 0..bytes.len() {
+                assert_eq!(written(command, data, suffix, short), Err(9));
+            }
+        }
+    }
+}
+
+#[test]
+fn the_writer_writes_a_program_transfer() {
+    for (code, memory) in [(0, Memory::Flash), (1, Memory::Eeprom)] {
+        let command = Command::Program { memory, start: 0x00AF, end: 0x00B3 };
+        let suffix = b"sixteen bytes ..";
+        let want = transfer(code, 0x00AF, 0x00B3, b"hello", 0);
+        assert_eq!(want.len(), 48 + 15 + 5);
+        assert_eq!(written(command, b"hello", suffix, want.len()), Ok(want.clone()));
+        assert_eq!(written(command, b"hello", suffix, 2_000), Ok(want.clone()));
+        for short in 0..want.len() {
+            assert_eq!(written(command, b"hello", suffix, short), Err(9));
+        }
+    }
+}
+
+#[test]
+fn writer_refusal_8_comes_before_9() {
+    let suffix = [7; 16];
+    let eight = |command, data: &[u8], suffix: &[u8]| {
+        for length in [0, 3, 64, 3_000] {
+            assert_eq!(written(command, data, suffix, length), Err(8), "{command:?}");
+        }
+    };
+    for (memory, last) in [(Memory::Flash, 0x7FFF), (Memory::Eeprom, 0x03FF)] {
+        for (start, end) in [
+            (1, 0),
+            (last, last + 1),
+            (last + 1, last + 1),
+            (0, 0x0400),
+            (0xFFFF, 0xFFFF),
+            (0, 0xFFFF),
+        ] {
+            let count = usize::from(end as u16).wrapping_sub(start).wrapping_add(1).min(70_000);
+            let (start, end) = (start as u16, end as u16);
+            eight(Command::Program { memory, start, end }, &vec![0; count], &suffix);
+            eight(Command::Read { memory, start, end }, &[], &[]);
+        }
+        let command = Command::Program { memory, start: 0, end: 4 };
+        for length in [0, 4, 6, 1_024] {
+            eight(command, &vec![0; length], &suffix);
+        }
+        for length in [0, 15, 17] {
+            eight(command, &[0; 5], &vec![0; length]);
+        }
+        assert_eq!(written(command, &[0; 5], &suffix, 52), Err(9));
+        assert_eq!(written(command, &[0; 5], &suffix, 53).map(|w| w.len()), Ok(53));
+    }
+    for (start, end) in [(1, 0), (0, 0x8000), (0x8000, 0x8000), (0xFFFF, 0xFFFF)] {
+        eight(Command::BlankCheck { start, end }, &[], &[]);
+    }
+    for index in 0..=255 {
+        if index > 6 {
+            eight(Command::WriteByte { index, value: 0 }, &[], &[]);
+        }
+        if index > 6 && ![0x30, 0x31, 0x60, 0x61].contains(&index) {
+            eight(Command::ReadByte(index), &[], &[]);
+        } else {
+            let want = vec![5, 1, index];
+            assert_eq!(written(Command::ReadByte(index), &[], &[], 3), Ok(want));
+        }
+    }
+    for address in [0x8000, 0xFFFF] {
+        eight(Command::StartAt(address), &[], &[]);
+    }
+}
+
+#[test]
+fn writer_boundaries() {
+    let suffix = [9; 16];
+    for (memory, start, whole) in [
+        (Memory::Flash, 0x0000, 1_072),
+        (Memory::Flash, 0x7C00, 1_072),
+        (Memory::Flash, 0x001F, 1_103),
+        (Memory::Eeprom, 0x0000, 1_072),
+    ] {
+        let command = Command::Program { memory, start, end: start + 0x03FF };
+        let data = [0x5A; 1_024];
+        assert_eq!(written(command, &data, &suffix, 1_103).map(|w| w.len()), Ok(whole));
+        let longer = Command::Program { memory, start, end: start + 0x0400 };
+        assert_eq!(written(longer, &[0x5A; 1_025], &suffix, 1_104), Err(8));
+    }
+    for value in 0..=255 {
+        let command = Command::WriteByte { index: 5, value };
+        assert_eq!(written(command, &[], &[], 4), Ok(vec![4, 1, 5, value]));
+    }
+}
+
+// ---------------------------------------------------------------- round trip
+
+fn any_command(random: &mut Xorshift) -> Command {
+    let memory = random.pick(&[Memory::Flash, Memory::Eeprom]);
+    let size = if memory == Memory::Flash { 32_768 } else { 1_024 };
+    let start = random.below(size);
+    let most = random.pick(&[1, 2, 40, 300, 1_024]);
+    let end = (start + random.below(most)).min(size - 1);
+    let (start, end) = (start as u16, end as u16);
+    match random.below(13) {
+        0..=2 => Command::Program { memory, start, end },
+        3 => Command::Read { memory, start, end },
+        4 => {
+            let (one, two) = (random.word() & 0x7FFF, random.word() & 0x7FFF);
+            Command::BlankCheck { start: one.min(two), end: one.max(two) }
+        }
+        5 => Command::EraseBlock(random.pick(&[Block::First, Block::Second, Block::Third])),
+        6 => Command::EraseAll,
+        7 => Command::WriteByte { index: random.below(7) as u8, value: random.byte() },
+        8 => Command::WriteHsb(random.byte()),
+        9 => random.pick(&[Command::StartReset, Command::StartAt(start)]),
+        10 => Command::ReadVersion,
+        11 => Command::ReadByte(random.pick(&[0, 1, 2, 3, 4, 5, 6, 0x30, 0x31, 0x60, 0x61])),
+        _ => Command::ReadHsb,
+    }
+}
+
+/// "Reading what it wrote gives the same command, data and suffix."
+#[test]
+fn reading_what_was_written() {
+    let mut random = Xorshift(0x0123_4567_89AB_CDEF);
+    for _ in 0..20_000 {
+        let command = any_command(&mut random);
+        let (data, suffix) = match command {
+            Command::Program { start, end, .. } => {
+                (random.bytes(usize::from(end - start) + 1), random.bytes(16))
+            }
+            _ => (vec![], vec![]),
+        };
+        let payload = written(command, &data, &suffix, 1_103).unwrap();
+        let Reading::Command(again, data_place, suffix_place) = read_command(&payload) else {
+            panic!("{command:?} is not read back");
+        };
+        assert_eq!(again, command);
+        assert_eq!(payload[data_place], data);
+        assert_eq!(payload[suffix_place], suffix);
+    }
+}
+
+/// "A payload that a level 0 board in state 2 answers without stall or 08h,
+/// with zero filler and pad, is written back byte for byte." On the way: at
+/// level 0 the board stalls and gives 08h where the reader does.
+#[test]
+fn writing_back_what_the_board_takes() {
+    let mut random = Xorshift(0xFEDC_BA98_7654_3210);
+    let mut rig = Rig::new();
+    let mut written_back = 0;
+    for _ in 0..30_000 {
+        let payload = any_payload(&mut random);
+        rig.session = Session { state: 2, status: 0, pending: Pending::Nothing };
+        rig.config.bytes[5] = LEVEL_0;
+        let answer = rig.send(&dnload(payload.len()), &payload);
+        match read_command(&payload) {
+            Reading::Stall => assert_eq!(answer.outcome, Outcome::Stall),
+            Reading::Status08 => {
+                assert_eq!(answer.outcome, Outcome::Done);
+                assert_eq!((rig.session.state, rig.session.status), (10, 0x08));
+            }
+            Reading::Command(command, data, suffix) => {
+                assert_eq!(answer.outcome, Outcome::Done);
+                assert_ne!(rig.session.status, 0x08);
+                let room = payload.len();
+                let again = written(command, &payload[data], &payload[suffix], room);
+                assert_eq!(again, Ok(payload));
+                written_back += 1;
+            }
+        }
+    }
+    assert!(written_back > 5_000);
+}
+
+/// A payload of 1 to 1,103 bytes with zero filler and pad, often a command
+/// and often a little off.
+fn any_payload(random: &mut Xorshift) -> Vec<u8> {
+    let command = any_command(random);
+    let mut payload = match command {
+        Command::Program { memory, start, end } => {
+            let bytes = random.bytes(usize::from(end - start) + 1);
+            transfer(if memory == Memory::Flash { 0 } else { 1 }, start, end, &bytes, 0)
+        }
+        _ => written(command, &[], &[], 6).unwrap(),
+    };
+    match random.below(6) {
+        0 => {
+            let place = random.below(payload.len().min(6));
+            payload[place] = random.byte();
+            // A changed start may lay the pad over data: "with zero filler and pad".
+            if payload[0] == 1 && payload.len() > 63 {
+                payload[6..32].fill(0);
+                let pad = usize::from(payload[3] % 32);
+                payload[32..32 + pad].fill(0);
+            }
+        }
+        1 => drop(payload.pop()),
+        2 => payload.push(0),
+        _ => {}
+    }
+    payload.resize(payload.len().clamp(1, 1_103), 0);
+    payload
+}
+
+// -------------------------------------------------------------- the job file
+
+fn field(tag: u8, value: &[u8]) -> Vec<u8> {
+    let mut field = vec![tag];
+    field.extend_from_slice(&u16::try_from(value.len()).unwrap().to_be_bytes());
+    field.extend_from_slice(value);
+    field
+}
+
+fn request(setup: [u8; 8], data: &[u8]) -> Vec<u8> {
+    field(0x01, &[&setup[..], data].concat())
+}
+
+/// The value inside that many groups.
+fn nested(deep: usize, value: &[u8]) -> Vec<u8> {
+    (0..deep).fold(value.to_vec(), |inside, _| field(0x02, &inside))
+}
+
+fn printed(file: &[u8]) -> String {
+    let mut out = b"before ".to_vec();
+    run(file, &mut out);
+    String::from_utf8(out).unwrap().strip_prefix("before ").unwrap().to_string()
+}
+
+fn hex(text: &str) -> Vec<u8> {
+    text.as_bytes()
+        .chunks(2)
+        .map(|pair| u8::from_str_radix(std::str::from_utf8(pair).unwrap(), 16).unwrap())
+        .collect()
+}
+
+#[test]
+fn the_job_of_the_paper() {
+    let file = hex(concat!(
+        "02000B010008A105000000000100",
+        "01000B2101000000000300050100",
+        "010008A103000000000600",
+        "010008A102000000000100",
+    ));
+    let want = concat!(
+        "job 4\n",
+        "1 done 2 00 0 02\n",
+        "2 done 3 00 0 -\n",
+        "3 done 5 00 0 000000000500\n",
+        "4 done 2 00 0 FF\n",
+    );
+    assert_eq!(printed(&file), want);
+    assert_eq!(verdict(&file), Ok(()));
+    assert_eq!(count(&file), 4);
+}
+
+/// The program itself, from standard input to standard output.
+#[test]
+fn the_binary_prints_what_run_appends() {
+    let bad = field(9, b"");
+    for file in [&b""[..], &bad, &request(GETSTATE, &[]).repeat(500)] {
+        let mut child = Process::new(env!("CARGO_BIN_EXE_second"))
+            .stdin(Stdio::piped())
+            .stdout(Stdio::piped())
+            .spawn()
+            .unwrap();
+        child.stdin.take().unwrap().write_all(file).unwrap();
+        let output = child.wait_with_output().unwrap();
+        assert!(output.status.success());
+        assert_eq!(String::from_utf8(output.stdout).unwrap(), printed(file));
+    }
+}
+
+#[test]
+fn an_empty_job() {
+    assert_eq!(printed(&[]), "job 0\n");
+    assert_eq!(verdict(&[]), Ok(()));
+    assert_eq!(count(&[]), 0);
+    for file in [field(3, b""), field(2, b""), nested(4, &field(3, b"note"))] {
+        assert_eq!(printed(&file), "job 0\n");
+    }
+}
+
+#[test]
+fn refusal_11_fewer_than_three_bytes_left() {
+    for rest in [&[1][..], &[1, 0], &[9], &[9, 9], &[2], &[3, 0]] {
+        assert_eq!(verdict(rest), Err((11, 0)));
+        let file = [request(GETSTATE, &[]), rest.to_vec()].concat();
+        assert_eq!(verdict(&file), Err((11, 11)));
+        assert_eq!(printed(&file), "refused 11 at 11\n");
+        // Left in its group, however much follows the group.
+        let file = [field(2, rest), request(GETSTATE, &[])].concat();
+        assert_eq!(verdict(&file), Err((11, 3)));
+        let file = field(2, &[request(GETSTATE, &[]), rest.to_vec()].concat());
+        assert_eq!(verdict(&file), Err((11, 14)));
+    }
+}
+
+#[test]
+fn refusal_11_a_value_beyond_what_encloses_it() {
+    for tag in [1, 2, 3, 0, 4, 0xFF] {
+        assert_eq!(verdict(&[tag, 0, 1]), Err((11, 0)));
+        assert_eq!(verdict(&[tag, 0xFF, 0xFF, 1, 2, 3]), Err((11, 0)));
+        assert_eq!(verdict(&[tag, 0, 9, 1, 2, 3, 4, 5, 6, 7, 8]), Err((11, 0)));
+        // Inside the file, but beyond the group that holds the field.
+        let file = [field(2, &[tag, 0, 1]), vec![0; 20]].concat();
+        assert_eq!(verdict(&file), Err((11, 3)));
+        assert_eq!(printed(&file), "refused 11 at 3\n");
+        let file = [field(2, &field(2, &[tag, 0, 9, 0])), vec![0; 20]].concat();
+        assert_eq!(verdict(&file), Err((11, 6)));
+    }
+    // High byte first: 0100h is 256.
+    assert_eq!(verdict(&[3, 1, 0, 0]), Err((11, 0)));
+    assert_eq!(verdict(&[&[1, 1, 0][..], &[0; 256]].concat()), Ok(()));
+}
+
+#[test]
+fn refusal_12_unknown_tag() {
+    for tag in 0..=255 {
+        let known = [1, 2, 3].contains(&tag);
+        let want = if known { Ok(()) } else { Err((12, 0)) };
+        assert_eq!(verdict(&field(tag, &field(3, b"12345"))), want);
+        let inside = field(2, &field(tag, &[]));
+        let want = match tag {
+            1 => Err((14, 3)),
+            2 | 3 => Ok(()),
+            _ => Err((12, 3)),
+        };
+        assert_eq!(verdict(&inside), want);
+    }
+    // 11 is tried before 12, and 12 needs its cause alone.
+    assert_eq!(verdict(&[9, 0, 1]), Err((11, 0)));
+    assert_eq!(verdict(&[9, 0, 0]), Err((12, 0)));
+    assert_eq!(verdict(&nested(4, &[9, 0, 0])), Err((12, 12)));
+}
+
+#[test]
+fn refusal_13_a_group_inside_four_others() {
+    for deep in 0..=4 {
+        assert_eq!(verdict(&nested(deep, &request(GETSTATE, &[]))), Ok(()));
+        assert_eq!(count(&nested(deep, &request(GETSTATE, &[]))), 1);
+    }
+    for deep in 5..=9 {
+        let file = nested(deep, &request(GETSTATE, &[]));
+        assert_eq!(verdict(&file), Err((13, 12)));
+        assert_eq!(printed(&file), "refused 13 at 12\n");
+    }
+    assert_eq!(verdict(&nested(5, &[])), Err((13, 12)));
+    // 11 before 13, and what the fifth group holds is not reached.
+    assert_eq!(verdict(&nested(4, &[2, 0, 1])), Err((11, 12)));
+    assert_eq!(verdict(&nested(4, &field(2, &[9, 0, 0]))), Err((13, 12)));
+    // Four deep again after leaving four deep.
+    let file = [nested(4, &[]), nested(4, &request(GETSTATE, &[]))].concat();
+    assert_eq!((verdict(&file), count(&file)), (Ok(()), 1));
+    let file = nested(3, &[field(2, &[]), field(2, &field(2, &[]))].concat());
+    assert_eq!(verdict(&file), Err((13, 15)));
+}
+
+#[test]
+fn refusal_14_a_request_under_8_bytes() {
+    for length in 0..=7 {
+        assert_eq!(verdict(&field(1, &vec![0; length])), Err((14, 0)));
+        let file = [field(3, b"x"), field(1, &vec![0; length])].concat();
+        assert_eq!(printed(&file), "refused 14 at 4\n");
+    }
+    assert_eq!(verdict(&field(1, &[0; 8])), Ok(()));
+    assert_eq!(verdict(&[1, 0, 7, 0]), Err((11, 0)));
+}
+
+#[test]
+fn refusal_15_a_note_over_64() {
+    assert_eq!(verdict(&field(3, &[0; 64])), Ok(()));
+    assert_eq!(verdict(&field(3, &[0; 65])), Err((15, 0)));
+    assert_eq!(verdict(&field(2, &field(3, &[0; 65]))), Err((15, 3)));
+    assert_eq!(printed(&field(3, &[0; 300])), "refused 15 at 0\n");
+    assert_eq!(verdict(&[3, 0, 65, 0]), Err((11, 0)));
+}
+
+#[test]
+fn refusal_16_first_of_all() {
+    let mut file = [request(GETSTATE, &[]), field(1, &[0; 16_384 - 11 - 3])].concat();
+    assert_eq!(file.len(), 16_384);
+    assert_eq!((verdict(&file), count(&file)), (Ok(()), 2));
+    file.push(0);
+    assert_eq!(verdict(&file), Err((16, 0)));
+    assert_eq!(printed(&file), "refused 16 at 0\n");
+    for byte in [0, 1, 2, 3, 0xFF] {
+        assert_eq!(verdict(&[byte; 16_385]), Err((16, 0)));
+        assert_eq!(verdict(&vec![byte; 100_000]), Err((16, 0)));
+        assert_ne!(verdict(&[byte; 16_384]), Err((16, 0)));
+    }
+}
+
+#[test]
+fn the_first_bad_field_in_file_order() {
+    let bad: [(u8, Vec<u8>); 4] =
+        [(12, field(9, &[])), (13, nested(5, &[])), (14, field(1, &[])), (15, field(3, &[0; 65]))];
+    for (number, one) in &bad {
+        let within = if *number == 13 { 12 } else { 0 };
+        for (_, other) in &bad {
+            let file = [&one[..], other].concat();
+            assert_eq!(verdict(&file), Err((*number, within)));
+            let file = [&request(GETSTATE, &[])[..], one, other, &[1]].concat();
+            assert_eq!(verdict(&file), Err((*number, 11 + within)));
+        }
+        if *number != 13 {
+            // A bad field in a group comes before one behind the group,
+            // and behind a good group before one further on.
+            let file = [field(2, one), vec![1]].concat();
+            assert_eq!(verdict(&file), Err((*number, 3)));
+            let file = [nested(2, &field(3, b"")), one.clone(), vec![1]].concat();
+            assert_eq!(verdict(&file), Err((*number, 9)));
+        }
+    }
+    // A group that runs out of the file is bad itself, before what it holds.
+    assert_eq!(verdict(&[2, 0, 4, 9, 0, 0]), Err((11, 0)));
+}
+
+#[test]
+fn requests_come_in_file_order_through_all_groups() {
+    let numbered = |n: u8| request([0x21, 1, n, 0, 0, 0, n, 0], &vec![n; n.into()]);
+    let file = [
+        field(3, b"a note"),
+        numbered(1),
+        field(
+            2,
+            &[numbered(2), nested(3, &[numbered(3), numbered(4)].concat()), numbered(5)].concat(),
+        ),
+        field(2, &[]),
+        nested(4, &numbered(6)),
+        numbered(7),
+        field(3, &[1; 64]),
+    ]
+    .concat();
+    assert_eq!(verdict(&file), Ok(()));
+    assert_eq!(count(&file), 7);
+    let found: Vec<_> = requests(&file).collect();
+    assert_eq!(found.len(), 7);
+    for (n, request) in (1..=7).zip(found) {
+        assert_eq!(request.setup, &[0x21, 1, n, 0, 0, 0, n, 0]);
+        assert_eq!(request.data, vec![n; n.into()]);
+    }
+}
+
+#[test]
+fn the_most_requests_that_fit() {
+    let mut file = request(GETSTATE, &[]).repeat(1_489);
+    file.extend_from_slice(&field(3, b"xy"));
+    assert_eq!(file.len(), 16_384);
+    assert_eq!(count(&file), 1_489);
+    let text = printed(&file);
+    let lines: Vec<_> = text.lines().collect();
+    assert_eq!(lines.len(), 1_490);
+    assert_eq!(lines[0], "job 1489");
+    for (number, line) in lines.iter().enumerate().skip(1) {
+        assert_eq!(*line, format!("{number} done 2 00 0 02"));
+    }
+}
+
+#[test]
+fn lines_of_every_outcome() {
+    let file = [
+        request(dnload(4), &[0x04, 0x01, 0x05, 0xFE]),
+        request(GETSTATUS, &[]),
+        request(dnload(3), &[0x04, 0x00, 0x20]),
+        request(GETSTATE, &[]),
+        request(DETACH, &[]),
+        request(CLRSTATUS, &[]),
+        request(dnload(3), &[0x04, 0x00, 0xFF]),
+        request(GETSTATUS, &[]),
+        request(dnload(5), &[0x04, 0x03, 0x01, 0x12]),
+        request(dnload(5), &[0x04, 0x03, 0x01, 0x12, 0x34]),
+        request(dnload(0), &[]),
+        request(GETSTATE, &[]),
+        request(GETSTATE, &[0]),
+    ]
+    .concat();
+    let want = concat!(
+        "job 13\n",
+        "1 done 3 00 0 -\n",
+        "2 done 5 00 0 000000000500\n",
+        "3 done 10 03 0 -\n",
+        "4 done 10 03 0 0A\n",
+        "5 stall 10 03 0 -\n",
+        "6 done 2 00 0 -\n",
+        "7 done 3 00 256 -\n",
+        "8 done 5 00 0 000000000500\n",
+        "9 ref4 5 00 0 -\n",
+        "10 done 3 00 0 -\n",
+        "11 start 0 00 0 -\n",
+        "12 ref7 0 00 0 -\n",
+        "13 ref4 0 00 0 -\n",
+    );
+    assert_eq!(printed(&file), want);
+}
+
+#[test]
+fn a_program_transfer_through_the_bench() {
+    let bytes: Vec<u8> = (0..=255).cycle().take(1_024).collect();
+    let file = [
+        request(dnload(1_103), &transfer(0, 0x007F, 0x047E, &bytes, 0)),
+        request(GETSTATUS, &[]),
+        nested(4, &request(dnload(6), &ranged(0x03, 0x00, 0x007E, 0x047D))),
+        request(GETSTATUS, &[]),
+        request(upload(0xFFFF), &[]),
+        request(upload(1), &[]),
+        request(GETSTATUS, &[]),
+    ]
+    .concat();
+    let mut read = String::from("FF");
+    bytes[..1_023].iter().for_each(|byte| read.push_str(&format!("{byte:02X}")));
+    let want = format!(
+        "job 7\n1 done 3 00 9 -\n2 done 5 00 0 000000000500\n3 done 3 00 0 -\n\
+         4 done 5 00 0 000000000500\n5 done 2 00 0 {read}\n6 stall 10 0F 0 -\n\
+         7 done 10 0F 0 0F0000000A00\n"
+    );
+    assert_eq!(printed(&file), want);
+}
+
+#[test]
+fn refused_jobs_run_nothing() {
+    let file = [request(GETSTATE, &[]), field(9, &[])].concat();
+    assert_eq!(printed(&file), "refused 12 at 11\n");
+}
+
+// ----------------------------------------------------------------- totality
+
+fn any_pending(random: &mut Xorshift) -> Pending {
+    let near = [0, 1, 0x03FF, 0x0400, 0x7C00, 0x7FFF, 0x8000, 0xFFFF, random.word()];
+    let (start, end) = (random.pick(&near), random.pick(&near));
+    match random.below(5) {
+        0 => Pending::Nothing,
+        1 => Pending::Read { memory: random.pick(&[Memory::Flash, Memory::Eeprom]), start, end },
+        2 => Pending::Blank(start),
+        3 => Pending::Byte(random.byte()),
+        _ => {
+            let kind = random.pick(&[StartKind::Reset, StartKind::Jump]);
+            Pending::Start { kind, address: start }
+        }
+    }
+}
+
+/// Anything at all is answered, and a refusal or a stall moves what it may.
+#[test]
+fn step_is_total() {
+    let mut random = Xorshift(0x1357_9BDF_0246_8ACE);
+    let mut rig = Rig::filled();
+    for _ in 0..40_000 {
+        let sizes = [[0, 32_767, 32_769], [0, 1_023, 1_025], [0, 1_023, 3_000]];
+        let odd = random.below(12);
+        rig.flash.resize(if odd == 0 { random.pick(&sizes[0]) } else { 32_768 }, 0x11);
+        rig.eeprom.resize(if odd == 1 { random.pick(&sizes[1]) } else { 1_024 }, 0x22);
+        rig.reply.resize(if odd == 2 { random.pick(&sizes[2]) } else { 1_024 }, 0x33);
+        let byte = random.byte();
+        let state = random.pick(&[0, 2, 2, 2, 3, 5, 5, 5, 6, 9, 9, 10, byte]);
+        let status = random.pick(&[0, 5, 0x0F, 0x10, byte]);
+        rig.session = Session { state, status, pending: any_pending(&mut random) };
+        rig.config.bytes[5] = random.pick(&[0xFF, 0xFE, 0xFC, byte]);
+        let data = if random.below(2) == 0 { any_payload(&mut random) } else { vec![] };
+        let mut setup = dnload(data.len()).to_vec();
+        if data.is_empty() {
+            setup = random.pick(&[GETSTATE, GETSTATUS, CLRSTATUS, ABORT, upload(77)]).to_vec();
+        }
+        if random.below(8) == 0 {
+            let place = random.below(8);
+            setup[place] = random.byte();
+        }
+        let before = rig.clone();
+        let answer = rig.send(&setup, &data);
+        match answer.outcome {
+            Outcome::Refused(number) => {
+                assert!((2..=7).contains(&number));
+                assert!(rig == before && answer.length == 0 && answer.pages == 0);
+            }
+            Outcome::Stall => {
+                assert_eq!(rig.session.state, 10);
+                rig.session = before.session;
+                assert!(rig == before && answer.length == 0 && answer.pages == 0);
+            }
+            Outcome::Done | Outcome::Start { .. } => {
+                assert!(answer.length <= 1_024 && answer.pages <= 256);
+                assert!(rig.reply[answer.length..] == before.reply[answer.length..]);
+            }
+        }
+    }
+}
+
+/// Any bytes are judged, cut and run without a panic.
+#[test]
+fn the_job_functions_are_total() {
+    let mut random = Xorshift(0x2468_ACE0_1357_9BDF);
+    for _ in 0..20_000 {
+        let length = random.pick(&[0, 1, 2, 3, 11, 40, 300]);
+        let mut file = random.bytes(length);
+        for byte in &mut file {
+            *byte = random.pick(&[0, 0, 1, 2, 3, 8, 9, 11, *byte]);
+        }
+        let mut out = vec![];
+        run(&file, &mut out);
+        let all = requests(&file).count();
+        match verdict(&file) {
+            Ok(()) => {
+                assert_eq!(all, count(&file));
+                assert!(out.starts_with(format!("job {all}\n").as_bytes()));
+            }
+            Err((number, at)) => {
+                assert!((11..=15).contains(&number) && at < file.len());
+                assert_eq!(out, format!("refused {number} at {at}\n").as_bytes());
+            }
+        }
+    }
+}
