@@ -130,6 +130,8 @@ pub fn step(
 }
 
 /// The request itself. Past refusals 6 and 7, not 10 is "2, 3, 5, 6, 9".
+// In line, so that the setup's fields stay in registers.
+#[inline(always)]
 fn answer(
     session: &mut Session,
     config: &mut Config,

@@ -11,9 +11,9 @@ use lib.Dec.{eqb}
 use lib.ListN.{length, take, drop, getD}
 use lib.Seq.{drop-cons}
 use borrow.Author.Tests.{eq-eqb, ne-eqb}
-use Rattle.board.specs.Words.{if_then_else_, part}
+use Rattle.words.specs.Words.{if_then_else_, part}
 use Rattle.board.specs.Blank.{firstUsed, usedIn}
-use Rattle.board.proofs.WordsLaws.{part-whole}
+use Rattle.words.proofs.WordsLaws.{part-whole}
 
 -- FFh at each place before x, and not at x: x is found
 firstUsed-at : (l : List ℕ) (a x : ℕ) → x < length l → ((i : ℕ) → i < x → getD l i 0 ≡ 0xFF) → (getD l x 0 ≡ 0xFF → ⊥) → firstUsed a l ≡ some (a + x)

@@ -1,5 +1,4 @@
 -- The laws of the board's definitions. Each file has the laws of the file of specs/ that it is named after.
-pub mod WordsLaws
 pub mod PagesLaws
 pub mod BlankLaws
 pub mod ConfigLaws

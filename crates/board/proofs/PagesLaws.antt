@@ -9,10 +9,10 @@ use native.Mathlib.Nat.{add-zero, zero-add}
 use lib.Dec.{lit<, lit≤}
 use lib.ListN.{length, take, drop, replicate, length-append, length-drop, length-replicate, take-append-drop, drop-of-length-le}
 use lib.Seq.{take-append-le, take-take, length-take-le, take-add, take-at}
-use Rattle.board.specs.Words.{count, overlay}
-use Rattle.board.specs.Memory.{Programmed, page, pageSize, flashSize, flashPages, blankFlash}
+use Rattle.words.specs.Words.{count, overlay, Programmed}
+use Rattle.board.specs.Memory.{page, pageSize, flashSize, flashPages, blankFlash}
 use Rattle.board.specs.Pages.{Block, Low, Middle, High, Store, store, storeAll, pageOf, pagesFrom, firstPage, pagesMet, programStores, blockStart, blockEnd, blockFF, blockStores, chipStores}
-use Rattle.board.proofs.WordsLaws.{drop-past, length-front, length-overlay, overlay-programmed}
+use Rattle.words.proofs.WordsLaws.{drop-past, length-front, length-overlay, overlay-programmed}
 
 -- ---- the list of stores
 

@@ -3,7 +3,7 @@ use mathlib.Core.List.{List, [], _∷_}
 use mathlib.Core.Option.{Option, none, some}
 use Prim.Native.Nat.{ℕ, suc}
 use lib.Dec.{eqb}
-use Rattle.board.specs.Words.{if_then_else_, part}
+use Rattle.words.specs.Words.{if_then_else_, part}
 
 -- the address of the first byte that is not FFh, of bytes that stand from address a on
 abbrev pub firstUsed : ℕ → List ℕ → Option ℕ

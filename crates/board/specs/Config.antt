@@ -3,7 +3,7 @@ use mathlib.Core.Bool.{Bool, _||_}
 use mathlib.Core.List.{List, [], _∷_}
 use Prim.Native.Nat.{ℕ, _+_, _*_, _/_, _%_}
 use lib.Dec.{eqb, leb}
-use Rattle.board.specs.Words.{if_then_else_, among}
+use Rattle.words.specs.Words.{if_then_else_, among}
 pub use Rattle.board.specs.declared.config.Config.{Config}
 
 -- "BSB FFh, SBV FCh, P1_CF FEh, P3_CF FFh, P4_CF FFh, SSB FFh, EB FFh (index 00h to 06h), and HSB BBh"

@@ -1,6 +1,6 @@
 -- The paper's "Levels of security": the level of a board. Assumes nothing: these are definitions.
 use lib.Dec.{eqb}
-use Rattle.board.specs.Words.{if_then_else_}
+use Rattle.words.specs.Words.{if_then_else_}
 use Rattle.board.specs.Config.{Config}
 pub use Rattle.board.specs.declared.level.Level.{Level}
 pub use Rattle.board.specs.declared.level.Level.the-variants.{L0, L1, L2}

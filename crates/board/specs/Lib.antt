@@ -1,5 +1,4 @@
 -- The definitions of the board, in the order in which they are read.
-pub mod Words
 pub mod Memory
 pub mod Pages
 pub mod Blank

@@ -1,10 +1,8 @@
 -- The paper's "The board": the two memories, their sizes and their ranges. Assumes nothing: these are definitions.
-use mathlib.Core.Logic.{_⊎_}
-use mathlib.Core.Path.{_≡_}
 use mathlib.Core.List.{List}
-use Prim.Native.Nat.{ℕ, _+_, _≤_, _<_}
-use lib.ListN.{length, getD, replicate}
-use Rattle.board.specs.Words.{count}
+use Prim.Native.Nat.{ℕ}
+use lib.ListN.{replicate}
+use Rattle.words.specs.Words.{count}
 pub use Rattle.board.specs.declared.address.FlashAddress.{FlashAddress}
 pub use Rattle.board.specs.declared.address.EepromAddress.{EepromAddress}
 pub use Rattle.board.specs.declared.address.Page.{Page}
@@ -57,10 +55,3 @@ memorySize (Eeprom a e) = eepromSize
 -- a flash of FFh; shut, so that nothing computes it by chance
 unfoldable pub blankFlash : List ℕ
 blankFlash = replicate flashSize 0xFF
-
--- "Programmed bytes take the new values and all others stay.": the memory `after` is the memory `before` with the bytes d from
--- place a on, said of every place
-pub record Programmed (a : ℕ) (d before after : List ℕ) : Type 0 where
-  pub same-size : length after ≡ length before
-  pub new-values : (i : ℕ) → i < length d → getD after (a + i) 0 ≡ getD d i 0
-  pub others-stay : (i : ℕ) → (i < a) ⊎ (a + length d ≤ i) → getD after i 0 ≡ getD before i 0

@@ -2,7 +2,7 @@
 use mathlib.Core.List.{List, [], _∷_}
 use Prim.Native.Nat.{ℕ, zero, suc, _-_, _*_, _/_}
 use lib.ListN.{take, drop, replicate}
-use Rattle.board.specs.Words.{count, overlay}
+use Rattle.words.specs.Words.{count, overlay}
 use Rattle.board.specs.Memory.{Page, page, pageSize, flashPages, blankFlash}
 pub use Rattle.board.specs.declared.address.Block.{Block}
 pub use Rattle.board.specs.declared.address.Block.the-variants.{Low, Middle, High}

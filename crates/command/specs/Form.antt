@@ -5,7 +5,7 @@ use mathlib.Core.Option.{Option, none, some}
 use Prim.Native.Nat.{ℕ}
 use lib.Dec.{eqb, leb}
 use lib.ListN.{length}
-use Rattle.board.specs.Words.{if_then_else_, begins, byteAt, highFirst}
+use Rattle.words.specs.Words.{if_then_else_, begins, byteAt, highFirst}
 use Rattle.board.specs.Memory.{flashAddress, eepromAddress}
 use Rattle.board.specs.declared.address.FlashAddress.{FlashAddress}
 use Rattle.board.specs.declared.address.EepromAddress.{EepromAddress}

@@ -11,8 +11,8 @@ use lib.Dec.{T, lit<, lit≤, leb→le, ltb→lt, leb, ltb}
 use lib.ListN.{length, take, drop, getD, length-append}
 use lib.Seq.{take-at, drop-at}
 use borrow.Author.Tests.{le-ltb, lt-leb, le-leb, eq-eqb}
-use Rattle.board.specs.Words.{count}
-use Rattle.board.specs.Memory.{flashSize, eepromSize, flashPages, lastFlash, flashAddress, Programmed}
+use Rattle.words.specs.Words.{count, Programmed}
+use Rattle.board.specs.Memory.{flashSize, eepromSize, flashPages, lastFlash, flashAddress}
 use Rattle.board.specs.Pages.{pagesMet, programStores, chipStores}
 use Rattle.board.specs.Blank.{usedIn}
 use Rattle.board.specs.Config.{erasedConfig}

@@ -13,7 +13,7 @@ use Rattle.board.specs.Blank.{usedIn}
 use Rattle.board.specs.declared.address.Range.{Range}
 use Rattle.board.specs.declared.address.Range.the-variants.{Flash, Eeprom}
 use Rattle.board.specs.declared.address.Block.the-variants.{Low, Middle, High}
-use Rattle.board.proofs.WordsLaws.{overlay-programmed}
+use Rattle.words.proofs.WordsLaws.{overlay-programmed}
 use Rattle.board.proofs.PagesLaws.{programStores-programmed, blockStores-programmed, storeAll-chipStores, length-programStores, length-blockStores, length-chipStores, pagesMet-le}
 use Rattle.command.specs.Transfer.{bodyOf}
 use Rattle.command.specs.declared.command.Command.{Command}

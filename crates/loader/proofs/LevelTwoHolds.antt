@@ -14,7 +14,7 @@ use lib.ListN.{length, getD, length-map, List·getD-map}
 use lib.Seq.{ext-getD}
 use borrow.Author.Count.{below-none, below-more}
 use borrow.Author.Tests.{eqb-true, eqb-false, eq-eqb, ne-eqb, le-ltb, lt-leb}
-use Rattle.board.specs.Words.{if_then_else_}
+use Rattle.words.specs.Words.{if_then_else_}
 use Rattle.board.specs.Memory.{flashSize, eepromSize, lastFlash, flashAddress, blankFlash}
 use Rattle.board.specs.Pages.{chipStores}
 use Rattle.board.specs.Blank.{usedIn}

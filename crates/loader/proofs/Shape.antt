@@ -9,7 +9,7 @@ use Prim.Native.Nat.{ℕ}
 use lib.Dec.{eqb, ltb}
 use lib.ListN.{length}
 use borrow.Author.Tests.{eqb-true, not-false}
-use Rattle.board.specs.Words.{if_then_else_, among}
+use Rattle.words.specs.Words.{if_then_else_, among}
 use Rattle.board.specs.Memory.{flashSize, eepromSize}
 use Rattle.board.specs.Level.{level}
 use Rattle.command.specs.Form.{form}

@@ -1,11 +1,12 @@
 -- The paper's "Bench cases": a table, and one statement that all of it holds, for every board in state 2 at its level and every
 -- byte that a case does not name. Proved in proofs/BenchCasesHold.antt.
 use mathlib.Core.Path.{_≡_}
+use mathlib.Core.Bool.{false}
 use mathlib.Core.List.{List, [], _∷_, _++_}
 use Prim.Native.Nat.{ℕ, _/_, _%_, _≤_, _<_}
 use lib.ListN.{length, getD}
-use Rattle.board.specs.Words.{count}
-use Rattle.board.specs.Memory.{Programmed, flashSize, eepromSize, blankFlash}
+use Rattle.words.specs.Words.{count, Programmed}
+use Rattle.board.specs.Memory.{flashSize, eepromSize, blankFlash}
 use Rattle.board.specs.Level.{level}
 use Rattle.board.specs.declared.config.Config.{Config}
 use Rattle.board.specs.declared.level.Level.{Level}
@@ -14,7 +15,6 @@ use Rattle.command.specs.Transfer.{padding}
 use Rattle.loader.specs.Result.{Board, Result, next, pages, Outcome, Done, Stall}
 use Rattle.loader.specs.Refusals.{badSession, replySize}
 use Rattle.loader.specs.Step.{Event, Ask, step, lastSent}
-use mathlib.Core.Bool.{false}
 
 -- a board in state 2 at this level, that no refusal stops
 pub record Ready (l : Level) (b : Board) : Type 0 where

@@ -4,7 +4,7 @@ use mathlib.Core.List.{List, [], _∷_}
 use mathlib.Core.Option.{Option, none, some}
 use Prim.Native.Nat.{ℕ}
 use lib.Dec.{eqb}
-use Rattle.board.specs.Words.{if_then_else_}
+use Rattle.words.specs.Words.{if_then_else_}
 use Rattle.board.specs.Memory.{flashAddress}
 use Rattle.board.specs.Pages.{Store, programStores, blockStores, chipStores}
 use Rattle.board.specs.Blank.{usedIn}

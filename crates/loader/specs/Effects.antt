@@ -4,7 +4,8 @@ use mathlib.Core.Path.{_≡_}
 use mathlib.Core.List.{List, []}
 use mathlib.Core.Option.{Option, none, some}
 use Prim.Native.Nat.{ℕ, _≤_}
-use Rattle.board.specs.Memory.{Programmed, blankFlash}
+use Rattle.words.specs.Words.{Programmed}
+use Rattle.board.specs.Memory.{blankFlash}
 use Rattle.board.specs.Pages.{pagesMet, blockStart, blockFF}
 use Rattle.board.specs.Config.{withByte, withHsb, erasedConfig}
 use Rattle.board.specs.declared.address.Range.the-variants.{Flash, Eeprom}

@@ -7,7 +7,7 @@ use mathlib.Core.List.{List, [], _∷_}
 use mathlib.Core.Option.{Option, none, some}
 use Prim.Native.Nat.{ℕ, _/_, _%_, _<_}
 use lib.ListN.{length, getD}
-use Rattle.board.specs.Words.{if_then_else_}
+use Rattle.words.specs.Words.{if_then_else_}
 use Rattle.board.specs.Memory.{flashSize, eepromSize}
 use Rattle.board.specs.Level.{level}
 use Rattle.board.specs.declared.level.Level.the-variants.{L2}

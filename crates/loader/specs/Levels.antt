@@ -2,7 +2,7 @@
 use mathlib.Core.List.{[], _∷_}
 use Prim.Native.Nat.{ℕ}
 use lib.Dec.{eqb}
-use Rattle.board.specs.Words.{if_then_else_, among}
+use Rattle.words.specs.Words.{if_then_else_, among}
 use Rattle.board.specs.Config.{ssbIndex}
 use Rattle.board.specs.declared.level.Level.{Level}
 use Rattle.board.specs.declared.level.Level.the-variants.{L0, L1, L2}

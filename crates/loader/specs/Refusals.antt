@@ -4,7 +4,7 @@ use mathlib.Core.List.{List, [], _∷_}
 use Prim.Native.Nat.{ℕ}
 use lib.Dec.{eqb, leb, ltb}
 use lib.ListN.{length}
-use Rattle.board.specs.Words.{if_then_else_, among, byteAt}
+use Rattle.words.specs.Words.{if_then_else_, among, byteAt}
 use Rattle.board.specs.Memory.{flashSize, eepromSize}
 use Rattle.command.specs.Address.{badRange, pastFlash}
 use Rattle.loader.specs.Session.{Session, Pending, Nothing, MemoryRead, BlankReport, OneByte, Start}

@@ -4,7 +4,7 @@ use mathlib.Core.List.{List, [], _∷_}
 use Prim.Native.Nat.{ℕ, _+_, _/_, _%_}
 use lib.Dec.{eqb, ltb}
 use lib.ListN.{length, take}
-use Rattle.board.specs.Words.{if_then_else_, among, begins, lowFirst, part}
+use Rattle.words.specs.Words.{if_then_else_, among, begins, lowFirst, part}
 use Rattle.board.specs.Memory.{flashAddress, eepromAddress, rangeCount}
 use Rattle.board.specs.Level.{level}
 use Rattle.board.specs.declared.address.Range.{Range}

@@ -3,7 +3,7 @@ use mathlib.Core.List.{List, [], _∷_, _++_}
 use mathlib.Core.Option.{Option, none}
 use Prim.Native.Nat.{ℕ}
 use lib.ListN.{length, drop}
-use Rattle.board.specs.Words.{overlay}
+use Rattle.words.specs.Words.{overlay}
 use Rattle.board.specs.Pages.{Store, storeAll}
 use Rattle.board.specs.declared.address.EepromAddress.{EepromAddress}
 use Rattle.board.specs.declared.config.Config.{Config}

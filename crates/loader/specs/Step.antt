@@ -3,7 +3,7 @@ use mathlib.Core.List.{List, [], _∷_}
 use Prim.Native.Nat.{ℕ}
 use lib.Dec.{eqb}
 use lib.ListN.{replicate}
-use Rattle.board.specs.Words.{if_then_else_}
+use Rattle.words.specs.Words.{if_then_else_}
 use Rattle.board.specs.Memory.{blankFlash, eepromSize}
 use Rattle.board.specs.Config.{deliveredConfig}
 use Rattle.board.specs.declared.config.Config.{Config}

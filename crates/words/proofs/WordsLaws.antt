@@ -7,8 +7,7 @@ use Prim.Native.Nat.{ℕ, suc, _+_, _-_, _≤_, _<_}
 use native.Mathlib.Omega.{arith}
 use lib.ListN.{length, take, drop, getD, length-append, length-drop, List·getD-append}
 use lib.Seq.{length-take-le, take-all, getD-append-add, getD-take, getD-drop, drop-at, drop-drop}
-use Rattle.board.specs.Words.{count, part, overlay}
-use Rattle.board.specs.Memory.{Programmed}
+use Rattle.words.specs.Words.{count, part, overlay, Programmed}
 
 -- past a front of length k, put before what a list holds from k on, stands the list's own end
 pub drop-past : (x m : List ℕ) (k j : ℕ) → length x ≡ k → k ≤ j → drop j (x ++ drop k m) ≡ drop j m

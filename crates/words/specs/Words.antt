@@ -1,7 +1,9 @@
 -- The words that every other definition is written in. Assumes nothing: these are definitions.
+use mathlib.Core.Logic.{_⊎_}
+use mathlib.Core.Path.{_≡_}
 use mathlib.Core.Bool.{Bool, true, false, _||_, _&&_}
 use mathlib.Core.List.{List, [], _∷_, _++_}
-use Prim.Native.Nat.{ℕ, suc, _+_, _-_, _*_}
+use Prim.Native.Nat.{ℕ, suc, _+_, _-_, _*_, _≤_, _<_}
 use lib.Dec.{eqb}
 use lib.ListN.{length, take, drop, getD}
 
@@ -44,3 +46,10 @@ part a e m = take (count a e) (drop a m)
 -- the bytes d laid over the list m from place a on
 abbrev pub overlay : ℕ → List ℕ → List ℕ → List ℕ
 overlay a d m = take a m ++ d ++ drop (a + length d) m
+
+-- "Programmed bytes take the new values and all others stay.": the memory `after` is the memory `before` with the bytes d from
+-- place a on, said of every place
+pub record Programmed (a : ℕ) (d before after : List ℕ) : Type 0 where
+  pub same-size : length after ≡ length before
+  pub new-values : (i : ℕ) → i < length d → getD after (a + i) 0 ≡ getD d i 0
+  pub others-stay : (i : ℕ) → (i < a) ⊎ (a + length d ≤ i) → getD after i 0 ≡ getD before i 0

@@ -1,0 +1,19 @@
+-- The example of specs/Bench.antt, computed from the definitions.
+-- Assumes nothing.
+use mathlib.Core.Path.{refl}
+use Rattle.board.specs.Memory.{blankFlash}
+use Rattle.command.specs.Form.{form}
+use Rattle.job.specs.Field.{fieldRefusal}
+use Rattle.job.specs.Verdict.{andThen, fieldsVerdict, verdict}
+use Rattle.job.specs.Requests.{requestsIn, requestsOf}
+use Rattle.job.specs.Text.{decimal}
+use Rattle.job.specs.Line.{requestLine, jobLine}
+use Rattle.loader.specs.Commands.{perform, obey}
+use Rattle.loader.specs.Requests.{requestOf, dnload, send, upload, respond}
+use Rattle.loader.specs.Refusals.{refusal}
+use Rattle.loader.specs.Step.{ask}
+use Rattle.bench.specs.Bench.{lines, bench, Example}
+
+pub example : Example
+unfolding bench verdict fieldsVerdict fieldRefusal andThen requestsOf requestsIn jobLine requestLine decimal lines ask refusal requestOf respond dnload form obey perform upload send blankFlash
+example = refl

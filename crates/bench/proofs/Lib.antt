@@ -1,0 +1,2 @@
+-- The paper's example of the bench program.
+pub mod ExampleHolds

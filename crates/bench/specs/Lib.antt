@@ -1,0 +1,2 @@
+-- The definitions of the bench program.
+pub mod Bench

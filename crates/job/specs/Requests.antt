@@ -1,0 +1,41 @@
+-- The requests of a job. Assumes nothing: these are definitions.
+use mathlib.Core.List.{List, [], _∷_, _++_}
+use Prim.Native.Nat.{ℕ, zero, suc}
+use lib.Dec.{eqb}
+use lib.ListN.{length, take, drop}
+use Rattle.words.specs.Words.{if_then_else_}
+use Rattle.job.specs.Field.{tagAt, lengthAt, valueAt, endAt, beyond, requestTag, groupTag, setupSize}
+
+-- where a request's value lies in the file
+pub record Span : Type 0 where
+  pub start : ℕ
+  pub size : ℕ
+
+-- the requests of the fields from a place up to `end`, in file order, through all groups; a field that goes beyond ends them
+unfoldable pub requestsIn : ℕ → List ℕ → ℕ → ℕ → List Span
+requestsIn zero file at end = []
+requestsIn (suc n) file at end =
+    let inside = requestsIn n file (valueAt at) (endAt file at) in
+    let rest = requestsIn n file (endAt file at) end in
+    let field : List Span =
+    if eqb (tagAt file at) requestTag then record { start = valueAt at; size = lengthAt file at } ∷ rest else
+    if eqb (tagAt file at) groupTag then inside ++ rest else
+    rest in
+    if beyond file at end then [] else field
+
+unfoldable pub requestsOf : List ℕ → List Span
+requestsOf file = requestsIn (length file) file 0 (length file)
+
+-- "how many requests a job holds, through all its groups"
+abbrev pub requestCount : List ℕ → ℕ
+requestCount file = length (requestsOf file)
+
+-- "a request, 8 setup bytes then data"
+abbrev pub spanBytes : List ℕ → Span → List ℕ
+spanBytes file s = take (s .size) (drop (s .start) file)
+
+abbrev pub setupOf : List ℕ → Span → List ℕ
+setupOf file s = take setupSize (spanBytes file s)
+
+abbrev pub dataOf : List ℕ → Span → List ℕ
+dataOf file s = drop setupSize (spanBytes file s)

@@ -1,0 +1,8 @@
+// Job files: the verdict on a file, its requests, and the line that a request prints. Knows nothing of the board.
+//
+// No public function has a `requires`: each says what it answers for every input.
+mod line;
+mod verdict;
+
+pub use line::Word;
+pub use verdict::Verdict;
