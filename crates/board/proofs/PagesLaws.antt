@@ -43,9 +43,9 @@ storeAll-pagesFrom (suc n) g m p l h q =
     let lt : length (take k g) ≡ k = length-take-le k g hp in
     let lf : length (take k g ++ drop k m) ≡ length g = simp (length-append, length-drop) (omega (arith, lt)) in
     let ih : storeAll (pagesFrom g (suc p) n) (take k g ++ drop k m) ≡ take (pageSize * (suc p + n)) g ++ drop (pageSize * (suc p + n)) (take k g ++ drop k m)
-           = storeAll-pagesFrom n g (take k g ++ drop k m) (suc p) lf (omega (arith, h)) (take-at (take k g) (drop k m) k lt) in
+    = storeAll-pagesFrom n g (take k g ++ drop k m) (suc p) lf (omega (arith, h)) (take-at (take k g) (drop k m) k lt) in
     let dr : drop (pageSize * (suc p + n)) (take k g ++ drop k m) ≡ drop (pageSize * (suc p + n)) m
-           = drop-past (take k g) m k (pageSize * (suc p + n)) lt (omega arith) in
+    = drop-past (take k g) m k (pageSize * (suc p + n)) lt (omega arith) in
     let s : suc p + n ≡ p + suc n = omega arith in
     ap (storeAll (pagesFrom g (suc p) n)) e ∙ ih ∙ rw (dr, s)
 
@@ -65,9 +65,9 @@ module _ (a e : ℕ) (d m : List ℕ) (pages : ℕ) (whole : length m ≡ pageSi
       let lg : length g ≡ length m = length-overlay a d m (omega arith) in
       let la : length (take a m) ≡ a = length-take-le a m (omega arith) in
       let before : take (pageSize * p) m ≡ take (pageSize * p) g
-             = sym (rw append-assoc (take-append-le (pageSize * p) (take a m) (d ++ drop (a + length d) m) (omega (arith, la)) ∙ take-take (pageSize * p) a m (omega arith))) in
+      = sym (rw append-assoc (take-append-le (pageSize * p) (take a m) (d ++ drop (a + length d) m) (omega (arith, la)) ∙ take-take (pageSize * p) a m (omega arith))) in
       let beyond : drop (pageSize * (p + n)) m ≡ drop (pageSize * (p + n)) g
-             = sym (drop-past (take a m ++ d) m (a + length d) (pageSize * (p + n)) (length-front a d m range-fits) (omega arith)) in
+      = sym (drop-past (take a m ++ d) m (a + length d) (pageSize * (p + n)) (length-front a d m range-fits) (omega arith)) in
       storeAll-pagesFrom n g m p (omega arith) (omega arith) before ∙ rw beyond (take-append-drop (pageSize * (p + n)) g)
 
   pub programStores-programmed : Programmed a d m (storeAll (programStores a e d m) m)

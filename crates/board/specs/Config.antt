@@ -47,15 +47,16 @@ configByte i c =
 
 -- "write configuration byte": the byte of that index, and the others as they were
 abbrev pub withByte : ℕ → ℕ → Config → Config
-withByte i v c = record
-  { bsb = if eqb i 0x00 then v else c .bsb
-  ; sbv = if eqb i 0x01 then v else c .sbv
-  ; p1cf = if eqb i 0x02 then v else c .p1cf
-  ; p3cf = if eqb i 0x03 then v else c .p3cf
-  ; p4cf = if eqb i 0x04 then v else c .p4cf
-  ; ssb = if eqb i 0x05 then v else c .ssb
-  ; eb = if eqb i 0x06 then v else c .eb
-  ; hsb = c .hsb }
+withByte i v c = record {
+  bsb = if eqb i 0x00 then v else c .bsb;
+  sbv = if eqb i 0x01 then v else c .sbv;
+  p1cf = if eqb i 0x02 then v else c .p1cf;
+  p3cf = if eqb i 0x03 then v else c .p3cf;
+  p4cf = if eqb i 0x04 then v else c .p4cf;
+  ssb = if eqb i 0x05 then v else c .ssb;
+  eb = if eqb i 0x06 then v else c .eb;
+  hsb = c .hsb;
+}
 
 -- "the high four bits change, the low four stay"
 abbrev pub newHsb : ℕ → ℕ → ℕ
@@ -64,9 +65,9 @@ newHsb v old = v / 16 * 16 + old % 16
 -- "write HSB"
 abbrev pub withHsb : ℕ → Config → Config
 withHsb v c = record
-  { bsb = c .bsb; sbv = c .sbv; p1cf = c .p1cf; p3cf = c .p3cf; p4cf = c .p4cf; ssb = c .ssb; eb = c .eb; hsb = newHsb v (c .hsb) }
+    { bsb = c .bsb; sbv = c .sbv; p1cf = c .p1cf; p3cf = c .p3cf; p4cf = c .p4cf; ssb = c .ssb; eb = c .eb; hsb = newHsb v (c .hsb) }
 
 -- "Full chip erase sets .. BSB FFh, SBV FCh, SSB FFh; .. the other bytes stay."
 abbrev pub erasedConfig : Config → Config
 erasedConfig c = record
-  { bsb = 0xFF; sbv = 0xFC; p1cf = c .p1cf; p3cf = c .p3cf; p4cf = c .p4cf; ssb = 0xFF; eb = c .eb; hsb = c .hsb }
+    { bsb = 0xFF; sbv = 0xFC; p1cf = c .p1cf; p3cf = c .p3cf; p4cf = c .p4cf; ssb = 0xFF; eb = c .eb; hsb = c .hsb }

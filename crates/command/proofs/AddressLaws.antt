@@ -23,7 +23,8 @@ pub badRange-good : (r : Range) → badRange r ≡ false → Good r
 badRange-good r q =
     let o = or-false (ltb (rangeEnd r) (rangeStart r) || leb (memorySize r) (rangeEnd r)) (ltb mostBytes (rangeCount r)) q in
     let i = or-false (ltb (rangeEnd r) (rangeStart r)) (leb (memorySize r) (rangeEnd r)) (o .0) in
-    record
-      { forward = ltb-false (rangeEnd r) (rangeStart r) (i .0)
-      ; inside = leb-false (memorySize r) (rangeEnd r) (i .1)
-      ; short = ltb-false mostBytes (rangeCount r) (o .1) }
+    record {
+      forward = ltb-false (rangeEnd r) (rangeStart r) (i .0);
+      inside = leb-false (memorySize r) (rangeEnd r) (i .1);
+      short = ltb-false mostBytes (rangeCount r) (o .1);
+    }

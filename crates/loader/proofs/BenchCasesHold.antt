@@ -42,11 +42,12 @@ use Rattle.loader.proofs.Ready.{commanded, statusOf}
 answers-by : {l : Level} {head : List ℕ} {least most : ℕ} {o : Line} → T (ltb 0 least) → T (leb most mostData)
     → ((b : Board) → Ready l b → (rest : List ℕ) → least ≤ length (head ++ rest) → length (head ++ rest) ≤ most → line (obeyForm b (form (head ++ rest)) (head ++ rest)) ≡ o)
     → Answers l head least most o
-answers-by {l} {head} {least} {most} {o} p q f = record
-  { answers = λ b r u rest h k.
+answers-by {l} {head} {least} {most} {o} p q f = record {
+  answers = λ b r u rest h k.
       let w : 0 < least = ltb→lt 0 least p in
       let z : most ≤ mostData = leb→le most mostData q in
-      ap line (commanded r u (head ++ rest) (omega arith) (omega arith)) ∙ f b r rest h k }
+      ap line (commanded r u (head ++ rest) (omega arith) (omega arith)) ∙ f b r rest h k;
+}
 
 -- ---- program transfers (cases 2, 6 and 7)
 
@@ -82,21 +83,23 @@ module _ (a e : ℕ) (filler pad new suffix : List ℕ) (hf : length filler ≡ 
       rw (le-leb 6 (length (transfer a e filler pad new suffix)) six, wa, we)
 
 programs-by : (a e n k : ℕ) → a ≤ e → e < flashSize → count a e ≤ mostBytes → n ≡ transferLength (Flash (flashAddress a) (flashAddress e)) → k ≡ pagesMet a e → Programs a e n k
-programs-by a e n k forward inside short hn hk = record
-  { programs = λ b r u filler pad new suffix lf ln ls lt.
+programs-by a e n k forward inside short hn hk = record {
+  programs = λ b r u filler pad new suffix lf ln ls lt.
       let range : Range = Flash (flashAddress a) (flashAddress e) in
       let t : List ℕ = transfer a e filler pad new suffix in
       let good : badRange range ≡ false = rw (le-ltb e a forward, lt-leb flashSize e inside, le-ltb mostBytes (count a e) short) in
       let q : step b (download u t) ≡ accept (Program range) (stores (b .config) (programStores a e new (b .flash))) =
-          commanded r u t (omega arith) (omega arith)
-          ∙ ap (λ o. obeyForm b o t) (transfer-form a e filler pad new suffix lf ln ls (lt ∙ hn))
-          ∙ obey-program b range t (r .at-level) good (lt ∙ hn)
-          ∙ ap (λ x. accept (Program range) (stores (b .config) (programStores a e x (b .flash)))) (transfer-body a e filler pad new suffix lf ln ls (lt ∙ hn)) in
-      ( ap line q ∙ ap taken (length-programStores a e new (b .flash) ∙ sym hk)
-      , subst (λ x. Programmed a new (b .flash) (next b x .flash)) (sym q)
-        (programStores-programmed a e new (b .flash) flashPages (r .flash-size) forward (omega (arith, r .flash-size)) ln)
-      , ap (λ x. next b x .eeprom) q
-      , ap (λ x. next b x .config) q ) }
+      commanded r u t (omega arith) (omega arith)
+      ∙ ap (λ o. obeyForm b o t) (transfer-form a e filler pad new suffix lf ln ls (lt ∙ hn))
+      ∙ obey-program b range t (r .at-level) good (lt ∙ hn)
+      ∙ ap (λ x. accept (Program range) (stores (b .config) (programStores a e x (b .flash)))) (transfer-body a e filler pad new suffix lf ln ls (lt ∙ hn)) in (
+        ap line q ∙ ap taken (length-programStores a e new (b .flash) ∙ sym hk),
+        subst (λ x. Programmed a new (b .flash) (next b x .flash)) (sym q)
+            (programStores-programmed a e new (b .flash) flashPages (r .flash-size) forward (omega (arith, r .flash-size)) ln),
+        ap (λ x. next b x .eeprom) q,
+        ap (λ x. next b x .config) q,
+      );
+}
 
 -- ---- the blank check (case 9)
 
@@ -110,63 +113,97 @@ uploadOf-report c f e hf he u =
 
 case-9 : Finds L2 0x1234 (0x12 ∷ 0x34 ∷ [])
 unfolding form obey perform
-case-9 = record { finds = λ b r f u.
-    let c : Config = b .config in
-    let report : Session = session 3 0x05 (BlankReport (flashAddress 0x1234)) in
-    let found : usedIn 0 lastFlash (b .flash) ≡ some 0x1234 = usedIn-whole (b .flash) lastFlash 0x1234 (r .flash-size) (lit≤ tt) (f .before) (f .there) in
-    let e1 : step b (checkAll u) ≡ accept (BlankCheck (flashAddress 0) (flashAddress lastFlash)) (blankEffect c (some 0x1234)) =
-        commanded r u (0x03 ∷ 0x01 ∷ 0x00 ∷ 0x00 ∷ 0x7F ∷ 0xFF ∷ []) (lit< tt) (lit≤ tt)
-        ∙ ap (λ o. accept (BlankCheck (flashAddress 0) (flashAddress lastFlash)) (blankEffect c o)) found in
-    let e2 : step (board report c (b .flash) (b .eeprom)) (getStatus u) ≡ getStatusOf (board report c (b .flash) (b .eeprom)) =
-        statusOf report c (b .flash) (b .eeprom) (r .flash-size) (r .eeprom-size) refl refl u in
-    let e3 = uploadOf-report c (b .flash) (b .eeprom) (r .flash-size) (r .eeprom-size) u in
-    ( ap line e1
-    , ap (λ x. lastSent (next b x) (getStatus u ∷ upload u 2 ∷ [])) e1
-    ∙ ap (λ x. lastSent (next (board report c (b .flash) (b .eeprom)) x) (upload u 2 ∷ [])) e2
-    ∙ ap (λ x. x .sent) e3 ) }
+case-9 = record {
+  finds = λ b r f u.
+      let c : Config = b .config in
+      let report : Session = session 3 0x05 (BlankReport (flashAddress 0x1234)) in
+      let found : usedIn 0 lastFlash (b .flash) ≡ some 0x1234 = usedIn-whole (b .flash) lastFlash 0x1234 (r .flash-size) (lit≤ tt) (f .before) (f .there) in
+      let e1 : step b (checkAll u) ≡ accept (BlankCheck (flashAddress 0) (flashAddress lastFlash)) (blankEffect c (some 0x1234)) =
+      commanded r u (0x03 ∷ 0x01 ∷ 0x00 ∷ 0x00 ∷ 0x7F ∷ 0xFF ∷ []) (lit< tt) (lit≤ tt)
+      ∙ ap (λ o. accept (BlankCheck (flashAddress 0) (flashAddress lastFlash)) (blankEffect c o)) found in
+      let e2 : step (board report c (b .flash) (b .eeprom)) (getStatus u) ≡ getStatusOf (board report c (b .flash) (b .eeprom)) =
+      statusOf report c (b .flash) (b .eeprom) (r .flash-size) (r .eeprom-size) refl refl u in
+      let e3 = uploadOf-report c (b .flash) (b .eeprom) (r .flash-size) (r .eeprom-size) u in (
+        ap line e1,
+        ap (λ x. lastSent (next b x) (getStatus u ∷ upload u 2 ∷ [])) e1
+            ∙ ap (λ x. lastSent (next (board report c (b .flash) (b .eeprom)) x) (upload u 2 ∷ [])) e2
+            ∙ ap (λ x. x .sent) e3,
+      );
+}
 
 -- ---- the full chip erase and HSB (cases 11 and 12)
 
 case-11 : Erases L2 256 L0
 unfolding form obey perform
-case-11 = record { erases = λ b r u.
-    let e : step b (download u (0x04 ∷ 0x00 ∷ 0xFF ∷ [])) ≡ accept EraseChip (stores (erasedConfig (b .config)) chipStores) =
-        commanded r u (0x04 ∷ 0x00 ∷ 0xFF ∷ []) (lit< tt) (lit≤ tt) in
-    ( ap line e ∙ ap taken length-chipStores
-    , ap (λ x. level (next b x .config)) e
-    , ap (λ x. next b x .flash) e ∙ storeAll-chipStores (b .flash) (r .flash-size)
-    , ap (λ x. next b x .eeprom) e
-    , record
-        { bsb = ap (λ x. x .config .bsb) e
-        ; sbv = ap (λ x. x .config .sbv) e
-        ; p1cf = ap (λ x. x .config .p1cf) e
-        ; p3cf = ap (λ x. x .config .p3cf) e
-        ; p4cf = ap (λ x. x .config .p4cf) e
-        ; eb = ap (λ x. x .config .eb) e
-        ; hsb = ap (λ x. x .config .hsb) e } ) }
+case-11 = record {
+  erases = λ b r u.
+      let e : step b (download u (0x04 ∷ 0x00 ∷ 0xFF ∷ [])) ≡ accept EraseChip (stores (erasedConfig (b .config)) chipStores) =
+      commanded r u (0x04 ∷ 0x00 ∷ 0xFF ∷ []) (lit< tt) (lit≤ tt) in (
+        ap line e ∙ ap taken length-chipStores,
+        ap (λ x. level (next b x .config)) e,
+        ap (λ x. next b x .flash) e ∙ storeAll-chipStores (b .flash) (r .flash-size),
+        ap (λ x. next b x .eeprom) e,
+        record {
+          bsb = ap (λ x. x .config .bsb) e;
+          sbv = ap (λ x. x .config .sbv) e;
+          p1cf = ap (λ x. x .config .p1cf) e;
+          p3cf = ap (λ x. x .config .p3cf) e;
+          p4cf = ap (λ x. x .config .p4cf) e;
+          eb = ap (λ x. x .config .eb) e;
+          hsb = ap (λ x. x .config .hsb) e;
+        },
+      );
+}
 
 case-12 : WritesHsb L0 0x4F 0xBB 0x4B
 unfolding form obey perform
-case-12 = record { writes = λ b r h u.
-    let e = commanded r u (0x04 ∷ 0x02 ∷ 0x00 ∷ 0x4F ∷ []) (lit< tt) (lit≤ tt) in
-    (ap line e ∙ simp (r .at-level), ap (λ x. x .config .hsb) e ∙ simp (r .at-level, h)) }
+case-12 = record {
+  writes = λ b r h u.
+      let e = commanded r u (0x04 ∷ 0x02 ∷ 0x00 ∷ 0x4F ∷ []) (lit< tt) (lit≤ tt) in
+      (ap line e ∙ simp (r .at-level), ap (λ x. x .config .hsb) e ∙ simp (r .at-level, h));
+}
 
 -- ---- the table
 
 pub bench-cases : BenchCases
 unfolding form obey perform stall
-bench-cases =
-    ( refl
-    , ( programs-by 0x00AF 0x00AF 64 1 (lit≤ tt) (lit< tt) (lit≤ tt) refl refl
-    , ( answers-by tt tt (λ b r t h k. simp (le-antisymm k h, r .at-level, r .in-state-2))
-    , ( answers-by tt tt (λ b r t h k. simp (le-antisymm k h, r .at-level))
-    , ( answers-by tt tt (λ b r t h k. simp (le-leb _ _ h, r .at-level))
-    , ( programs-by 0x007F 0x047E 1103 9 (lit≤ tt) (lit< tt) (lit≤ tt) refl refl
-    , ( programs-by 0x7FFF 0x7FFF 80 1 (lit≤ tt) (lit< tt) (lit≤ tt) refl refl
-    , ( answers-by tt tt (λ b r t h k. simp (le-leb _ _ h, r .at-level))
-    , ( answers-by tt tt (λ b r t h k. simp (le-antisymm k h, r .at-level))
-    , ( case-9
-    , ( answers-by tt tt (λ b r t h k. simp (le-antisymm k h, r .at-level))
-    , ( case-11
-    , ( case-12
-    , tt )))))))))))))
+bench-cases = (
+  refl,
+  (
+    programs-by 0x00AF 0x00AF 64 1 (lit≤ tt) (lit< tt) (lit≤ tt) refl refl,
+    (
+      answers-by tt tt (λ b r t h k. simp (le-antisymm k h, r .at-level, r .in-state-2)),
+      (
+        answers-by tt tt (λ b r t h k. simp (le-antisymm k h, r .at-level)),
+        (
+          answers-by tt tt (λ b r t h k. simp (le-leb _ _ h, r .at-level)),
+          (
+            programs-by 0x007F 0x047E 1103 9 (lit≤ tt) (lit< tt) (lit≤ tt) refl refl,
+            (
+              programs-by 0x7FFF 0x7FFF 80 1 (lit≤ tt) (lit< tt) (lit≤ tt) refl refl,
+              (
+                answers-by tt tt (λ b r t h k. simp (le-leb _ _ h, r .at-level)),
+                (
+                  answers-by tt tt (λ b r t h k. simp (le-antisymm k h, r .at-level)),
+                  (
+                    case-9,
+                    (
+                      answers-by tt tt (λ b r t h k. simp (le-antisymm k h, r .at-level)),
+                      (
+                        case-11,
+                        (
+                          case-12,
+                          tt,
+                        ),
+                      ),
+                    ),
+                  ),
+                ),
+              ),
+            ),
+          ),
+        ),
+      ),
+    ),
+  ),
+)

@@ -39,20 +39,22 @@ leaves-program : (b : Board) (r : Range) (d : List ℕ) → Passed b (Program r)
 unfolding perform
 leaves-program b (Flash a e) d p =
     let g : Good (Flash a e) = badRange-good (Flash a e) (p .address-right) in
-    record
-      { flash = programStores-programmed (a .0) (e .0) (bodyOf (Flash a e) d) (b .flash) flashPages (p .flash-size) (g .forward)
-          (omega (arith, g .inside, p .flash-size)) (length-bodyOf (Flash a e) d (p .length-right))
-      ; eeprom = refl
-      ; config = refl
-      ; page-count = (length-programStores (a .0) (e .0) _ (b .flash), rw length-programStores (pagesMet-le (a .0) (e .0) (g .short))) }
+    record {
+      flash = programStores-programmed (a .0) (e .0) (bodyOf (Flash a e) d) (b .flash) flashPages (p .flash-size) (g .forward)
+          (omega (arith, g .inside, p .flash-size)) (length-bodyOf (Flash a e) d (p .length-right));
+      eeprom = refl;
+      config = refl;
+      page-count = (length-programStores (a .0) (e .0) _ (b .flash), rw length-programStores (pagesMet-le (a .0) (e .0) (g .short)));
+    }
 leaves-program b (Eeprom a e) d p =
     let g : Good (Eeprom a e) = badRange-good (Eeprom a e) (p .address-right) in
-    record
-      { flash = refl
-      ; eeprom = overlay-programmed (a .0) (bodyOf (Eeprom a e) d) (b .eeprom)
-          (omega (arith, g .forward, g .inside, p .eeprom-size, length-bodyOf (Eeprom a e) d (p .length-right)))
-      ; config = refl
-      ; page-count = refl }
+    record {
+      flash = refl;
+      eeprom = overlay-programmed (a .0) (bodyOf (Eeprom a e) d) (b .eeprom)
+          (omega (arith, g .forward, g .inside, p .eeprom-size, length-bodyOf (Eeprom a e) d (p .length-right)));
+      config = refl;
+      page-count = refl;
+    }
 
 leaves-did : (b : Board) (k : Command) (d : List ℕ) → Passed b k d → Leaves b d (accept k (perform b k d))
 unfolding perform
@@ -60,11 +62,11 @@ leaves-did b (Program r) d p = leaves-program b r d p
 leaves-did b (Read r) d p = record { flash = refl; eeprom = refl; config = refl; page-count = refl }
 leaves-did b (BlankCheck a e) d p = leaves-blank b a e d (usedIn (a .0) (e .0) (b .flash))
 leaves-did b (EraseBlock Low) d p = record
-  { flash = blockStores-programmed Low (b .flash) (p .flash-size); eeprom = refl; config = refl; page-count = length-blockStores Low (b .flash) }
+    { flash = blockStores-programmed Low (b .flash) (p .flash-size); eeprom = refl; config = refl; page-count = length-blockStores Low (b .flash) }
 leaves-did b (EraseBlock Middle) d p = record
-  { flash = blockStores-programmed Middle (b .flash) (p .flash-size); eeprom = refl; config = refl; page-count = length-blockStores Middle (b .flash) }
+    { flash = blockStores-programmed Middle (b .flash) (p .flash-size); eeprom = refl; config = refl; page-count = length-blockStores Middle (b .flash) }
 leaves-did b (EraseBlock High) d p = record
-  { flash = blockStores-programmed High (b .flash) (p .flash-size); eeprom = refl; config = refl; page-count = length-blockStores High (b .flash) }
+    { flash = blockStores-programmed High (b .flash) (p .flash-size); eeprom = refl; config = refl; page-count = length-blockStores High (b .flash) }
 leaves-did b EraseChip d p = record { flash = storeAll-chipStores (b .flash) (p .flash-size); eeprom = refl; config = refl; page-count = length-chipStores }
 leaves-did b (WriteByte i v) d p = record { flash = refl; eeprom = refl; config = refl; page-count = refl }
 leaves-did b (WriteHsb v) d p = record { flash = refl; eeprom = refl; config = refl; page-count = refl }

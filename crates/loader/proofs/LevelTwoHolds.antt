@@ -205,8 +205,8 @@ same-marks f f′ l h =
     let t : ℕ → Bool = λ x. eqb x 0xFF in
     ext-getD (t 0) (marks f) (marks f′) (simp length-map l)
     (λ i k. List·getD-map t f i 0
-      ∙ same-mark (getD f i 0) (getD f′ i 0) (t (getD f i 0)) refl (h i (simp length-map at k))
-      ∙ sym (List·getD-map t f′ i 0))
+    ∙ same-mark (getD f i 0) (getD f′ i 0) (t (getD f i 0)) refl (h i (simp length-map at k))
+    ∙ sym (List·getD-map t f′ i 0))
 
 pub kept-secret : KeptSecret
 unfolding cut
@@ -278,9 +278,10 @@ module _ (f f′ : List ℕ) where
 
   agree-same : length f ≡ flashSize → ((i : ℕ) → i < flashSize → Agree i) → SameBlank f f′
   agree-same l h i k =
-      let q : eqb (getD f i 0) 0xFF ≡ eqb (getD f′ i 0) 0xFF = h i (omega arith) in
-      ( (λ z. eqb-true (getD f′ i 0) 0xFF (sym q ∙ eq-eqb (getD f i 0) 0xFF z))
-      , (λ z. eqb-true (getD f i 0) 0xFF (q ∙ eq-eqb (getD f′ i 0) 0xFF z)) )
+      let q : eqb (getD f i 0) 0xFF ≡ eqb (getD f′ i 0) 0xFF = h i (omega arith) in (
+        (λ z. eqb-true (getD f′ i 0) 0xFF (sym q ∙ eq-eqb (getD f i 0) 0xFF z)),
+        (λ z. eqb-true (getD f i 0) 0xFF (q ∙ eq-eqb (getD f′ i 0) 0xFF z)),
+      )
 
 told-differ : (t t′ : Bool) → told t ≡ told t′ → t ≡ t′
 unfolding told
@@ -293,8 +294,12 @@ pub told-apart : ToldApart
 told-apart b b′ z z′ h u =
     ⊎-elim
     (λ same. absurd (h (agree-same (b .flash) (b′ .flash) (z .flash-size) same)))
-    (λ w. (w .0, w .1, λ q. w .2 (told-differ _ _
-      (sym (tells (b .session) (b .config) (b .flash) (b .eeprom) (z .flash-size) (z .eeprom-size) u (w .0) (w .1))
-      ∙ q
-      ∙ tells (b′ .session) (b′ .config) (b′ .flash) (b′ .eeprom) (z′ .flash-size) (z′ .eeprom-size) u (w .0) (w .1)))))
+    (λ w. (
+      w .0,
+      w .1,
+      λ q. w .2 (told-differ _ _
+          (sym (tells (b .session) (b .config) (b .flash) (b .eeprom) (z .flash-size) (z .eeprom-size) u (w .0) (w .1))
+          ∙ q
+          ∙ tells (b′ .session) (b′ .config) (b′ .flash) (b′ .eeprom) (z′ .flash-size) (z′ .eeprom-size) u (w .0) (w .1))),
+    ))
     (differ (b .flash) (b′ .flash) flashSize)

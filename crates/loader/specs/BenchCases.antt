@@ -69,7 +69,7 @@ notBlank = record { outcome = Done; state = 3; status = 0x05; pages = 0 }
 -- a board at level l, sent data that begins with `head` and has `least` to `most` bytes, answers with the line o
 pub record Answers (l : Level) (head : List ℕ) (least most : ℕ) (o : Line) : Type 0 where
   pub answers : (b : Board) → Ready l b → (u : Unnamed) (rest : List ℕ) → least ≤ length (head ++ rest) → length (head ++ rest) ≤ most
-    → line (step b (download u (head ++ rest))) ≡ o
+      → line (step b (download u (head ++ rest))) ≡ o
 
 -- the first six bytes of a program transfer to flash
 abbrev pub programHead : ℕ → ℕ → List ℕ
@@ -82,9 +82,9 @@ transfer a e filler pad new suffix = programHead a e ++ filler ++ pad ++ new ++ 
 -- the programmed bytes, and every other byte as before
 pub record Programs (a e n pageCount : ℕ) : Type 0 where
   pub programs : (b : Board) → Ready L0 b → (u : Unnamed) (filler pad new suffix : List ℕ)
-    → length filler ≡ 26 → length new ≡ count a e → length suffix ≡ 16 → length (transfer a e filler pad new suffix) ≡ n
-    → let r : Result = step b (download u (transfer a e filler pad new suffix)) in
-    (line r ≡ taken pageCount) × Programmed a new (b .flash) (next b r .flash) × (next b r .eeprom ≡ b .eeprom) × (next b r .config ≡ b .config)
+      → length filler ≡ 26 → length new ≡ count a e → length suffix ≡ 16 → length (transfer a e filler pad new suffix) ≡ n
+      → let r : Result = step b (download u (transfer a e filler pad new suffix)) in
+      (line r ≡ taken pageCount) × Programmed a new (b .flash) (next b r .flash) × (next b r .eeprom ≡ b .eeprom) × (next b r .config ≡ b .config)
 
 -- the first byte that is not FFh stands at x
 pub record FirstUsedAt (f : List ℕ) (x : ℕ) : Type 0 where
@@ -98,7 +98,7 @@ checkAll u = download u (0x03 ∷ 0x01 ∷ 0x00 ∷ 0x00 ∷ 0x7F ∷ 0xFF ∷ [
 -- a board at level l, first byte not FFh at x: 05h, then after GETSTATUS the upload o
 pub record Finds (l : Level) (x : ℕ) (o : List ℕ) : Type 0 where
   pub finds : (b : Board) → Ready l b → FirstUsedAt (b .flash) x → (u : Unnamed)
-    → (line (step b (checkAll u)) ≡ notBlank) × (lastSent b (checkAll u ∷ getStatus u ∷ upload u 2 ∷ []) ≡ o)
+      → (line (step b (checkAll u)) ≡ notBlank) × (lastSent b (checkAll u ∷ getStatus u ∷ upload u 2 ∷ []) ≡ o)
 
 -- "BSB FFh, SBV FCh", SSB as the level says, "EEPROM and the other bytes stay"
 pub record Erased-config (before after : Config) : Type 0 where
@@ -113,15 +113,15 @@ pub record Erased-config (before after : Config) : Type 0 where
 -- a board at level l, sent the full chip erase, takes it with so many pages and is at level m; flash FFh, EEPROM kept
 pub record Erases (l : Level) (pageCount : ℕ) (m : Level) : Type 0 where
   pub erases : (b : Board) → Ready l b → (u : Unnamed)
-    → let r : Result = step b (download u (0x04 ∷ 0x00 ∷ 0xFF ∷ [])) in
-    (line r ≡ taken pageCount) × (level (next b r .config) ≡ m) × (next b r .flash ≡ blankFlash) × (next b r .eeprom ≡ b .eeprom)
-    × Erased-config (b .config) (next b r .config)
+      → let r : Result = step b (download u (0x04 ∷ 0x00 ∷ 0xFF ∷ [])) in
+      (line r ≡ taken pageCount) × (level (next b r .config) ≡ m) × (next b r .flash ≡ blankFlash) × (next b r .eeprom ≡ b .eeprom)
+      × Erased-config (b .config) (next b r .config)
 
 -- HSB v, sent to a board at level l that has HSB old, is taken and leaves HSB new
 pub record WritesHsb (l : Level) (v old new : ℕ) : Type 0 where
   pub writes : (b : Board) → Ready l b → b .config .hsb ≡ old → (u : Unnamed)
-    → let r : Result = step b (download u (0x04 ∷ 0x02 ∷ 0x00 ∷ v ∷ [])) in
-    (line r ≡ taken 0) × (next b r .config .hsb ≡ new)
+      → let r : Result = step b (download u (0x04 ∷ 0x02 ∷ 0x00 ∷ v ∷ [])) in
+      (line r ≡ taken 0) × (next b r .config .hsb ≡ new)
 
 -- ---- the table
 

@@ -83,7 +83,7 @@ perform b ReadHsb d = leaves (b .config) (OneByte (b .config .hsb))
 -- "An accepted command sets status 00h, state 3 and what is pending"
 abbrev pub accept : Command → Effect → Result
 accept k x = record
-  { outcome = Done; sent = []; session = session 3 (x .status) (x .pending); config = x .config; stored = x .stored; patched = x .patched; accepted = some k }
+    { outcome = Done; sent = []; session = session 3 (x .status) (x .pending); config = x .config; stored = x .stored; patched = x .patched; accepted = some k }
 
 -- ---- the order
 

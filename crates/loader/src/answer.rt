@@ -1,8 +1,8 @@
 // What a request answers.
-use board::Config;
-use board::FlashAddress;
 use crate::session::Session;
 use crate::session::StartKind;
+use board::Config;
+use board::FlashAddress;
 
 pub enum Outcome {
     // Also where an error status is set.

@@ -49,10 +49,11 @@ module _ (a : ℕ) (d m : List ℕ) (fits : a + length d ≤ length m) where
 
   -- "Programmed bytes take the new values and all others stay."
   pub overlay-programmed : Programmed a d m (overlay a d m)
-  overlay-programmed = record
-    { same-size = length-overlay
-    ; new-values = new-value
-    ; others-stay = λ i o. ⊎-elim (before-stays i) (after-stays i) o }
+  overlay-programmed = record {
+    same-size = length-overlay;
+    new-values = new-value;
+    others-stay = λ i o. ⊎-elim (before-stays i) (after-stays i) o;
+  }
 
 -- the whole of a memory
 pub part-whole : (m : List ℕ) (e : ℕ) → length m ≡ suc e → part 0 e m ≡ m
