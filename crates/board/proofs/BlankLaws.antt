@@ -4,12 +4,13 @@ use mathlib.Core.Path.{_≡_, refl, sym, ap, _∙_}
 use mathlib.Core.Bool.{Bool}
 use mathlib.Core.List.{List, [], _∷_, map}
 use mathlib.Core.Option.{Option, none, some}
-use Prim.Native.Nat.{ℕ, zero, suc, _+_, _-_, _≤_, _<_, suc-le-suc}
+use Prim.Native.Nat.{ℕ, zero, suc, _+_, _-_, _≤_, _<_, min, suc-le-suc}
 use native.Mathlib.Nat.{add-zero, zero-add, suc-add, add-suc, le-of-suc-le-suc, not-suc-le-zero, zero-lt-suc}
 use native.Mathlib.Omega.{arith}
 use lib.Dec.{eqb}
-use lib.ListN.{length, take, drop, getD}
-use lib.Seq.{drop-cons}
+use native.Mathlib.Decide.{decLe}
+use lib.ListN.{length, take, drop, getD, length-drop}
+use lib.Seq.{drop-cons, take-all}
 use borrow.Author.Tests.{eq-eqb, ne-eqb}
 use Rattle.words.specs.Words.{if_then_else_, part}
 use Rattle.board.specs.Blank.{firstUsed, usedIn}
@@ -65,3 +66,42 @@ unfolding usedIn
 usedIn-same a e f f′ m =
     let q : marks (part a e f) ≡ marks (part a e f′) = simp (marks-take, marks-drop, m) in
     firstUsed-marks a (part a e f) ∙ ap (firstUnmarked a) q ∙ sym (firstUsed-marks a (part a e f′))
+
+-- ---- the search, byte by byte up to a place `stop`
+
+-- what is found from i on before stop
+unfoldable pub usedBefore : ℕ → ℕ → List ℕ → Option ℕ
+usedBefore stop i f = firstUsed i (take (stop - i) (drop i f))
+
+-- a part that is cut at the list's end
+take-cut : (a n stop : ℕ) (f : List ℕ) → stop ≡ min n (length f) → Dec (n ≤ length f) → take (n - a) (drop a f) ≡ take (stop - a) (drop a f)
+take-cut a n stop f h (yes l) =
+    let s : stop ≡ n = omega arith in
+    rw s
+take-cut a n stop f h (no l) =
+    let s : stop ≡ length f = omega arith in
+    take-all (n - a) (drop a f) (simp length-drop (omega arith)) ∙ sym (take-all (stop - a) (drop a f) (simp length-drop (omega arith)))
+
+-- the search of a range that is cut at the flash's end
+pub usedIn-before : (a e stop : ℕ) (f : List ℕ) → stop ≡ min (suc e) (length f) → usedIn a e f ≡ usedBefore stop a f
+unfolding usedIn usedBefore
+usedIn-before a e stop f h = ap (firstUsed a) (take-cut a (suc e) stop f h (decLe (suc e) (length f)))
+
+-- a byte that is not FFh is found; one that is FFh is passed; at the end nothing is found
+pub usedBefore-here : (stop i : ℕ) (f : List ℕ) → i < stop → stop ≤ length f → (getD f i 0 ≡ 0xFF → ⊥) → usedBefore stop i f ≡ some i
+unfolding usedBefore
+usedBefore-here stop i f h l q =
+    let n : stop - i ≡ suc (stop - suc i) = omega arith in
+    rw (n, drop-cons f i 0 (omega arith), ne-eqb (getD f i 0) 0xFF q)
+
+pub usedBefore-past : (stop i : ℕ) (f : List ℕ) → i < stop → stop ≤ length f → getD f i 0 ≡ 0xFF → usedBefore stop i f ≡ usedBefore stop (suc i) f
+unfolding usedBefore
+usedBefore-past stop i f h l q =
+    let n : stop - i ≡ suc (stop - suc i) = omega arith in
+    rw (n, drop-cons f i 0 (omega arith), eq-eqb (getD f i 0) 0xFF q)
+
+pub usedBefore-end : (stop i : ℕ) (f : List ℕ) → stop ≤ i → usedBefore stop i f ≡ none
+unfolding usedBefore
+usedBefore-end stop i f h =
+    let n : stop - i ≡ 0 = omega arith in
+    rw n

@@ -9,10 +9,11 @@ use native.Mathlib.Nat.{add-zero, zero-add}
 use lib.Dec.{lit<, lit≤}
 use lib.ListN.{length, take, drop, replicate, length-append, length-drop, length-replicate, take-append-drop, drop-of-length-le}
 use lib.Seq.{take-append-le, take-take, length-take-le, take-add, take-at}
+use borrow.Author.Tests.{le-leb}
 use Rattle.words.specs.Words.{count, overlay, Programmed}
-use Rattle.board.specs.Memory.{page, pageSize, flashSize, flashPages, blankFlash}
-use Rattle.board.specs.Pages.{Block, Low, Middle, High, Store, store, storeAll, pageOf, pagesFrom, firstPage, pagesMet, programStores, blockStart, blockEnd, blockFF, blockStores, chipStores}
-use Rattle.words.proofs.WordsLaws.{drop-past, length-front, length-overlay, overlay-programmed}
+use Rattle.board.specs.Memory.{Page, page, pageSize, flashSize, flashPages, blankFlash}
+use Rattle.board.specs.Pages.{Block, Low, Middle, High, Store, store, storeAll, pageStore, pageOf, pagesFrom, firstPage, pagesMet, programStores, blockStart, blockEnd, blockFF, blockStores, chipStores}
+use Rattle.words.proofs.WordsLaws.{drop-past, length-front, length-overlay, overlay-part, overlay-programmed}
 
 -- ---- the list of stores
 
@@ -48,6 +49,18 @@ storeAll-pagesFrom (suc n) g m p l h q =
     = drop-past (take k g) m k (pageSize * (suc p + n)) lt (omega arith) in
     let s : suc p + n ≡ p + suc n = omega arith in
     ap (storeAll (pagesFrom g (suc p) n)) e ∙ ih ∙ rw (dr, s)
+
+-- one page stored with bytes laid over it: those bytes laid over the memory
+module _ (p : Page) (at : ℕ) (d m : List ℕ) (within : at + length d ≤ pageSize) (there : pageSize * p .0 + pageSize ≤ length m) where
+  pub length-pageStore : length (pageStore p at d m) ≡ 1
+  unfolding pageStore
+  length-pageStore = rw (le-leb (at + length d) pageSize within, le-leb (pageSize * p .0 + pageSize) (length m) there)
+
+  pub storeAll-pageStore : storeAll (pageStore p at d m) m ≡ overlay (pageSize * p .0 + at) d m
+  unfolding pageStore
+  storeAll-pageStore =
+      rw (le-leb (at + length d) pageSize within, le-leb (pageSize * p .0 + pageSize) (length m) there)
+      (overlay-part (pageSize * p .0) pageSize at d m within there)
 
 -- ---- what the stores of a range leave
 
@@ -87,6 +100,11 @@ block-inside : (k : Block) → blockEnd k < flashSize
 block-inside Low = lit< tt
 block-inside Middle = lit< tt
 block-inside High = lit< tt
+
+pub storeAll-blockStores : (k : Block) (m : List ℕ) → length m ≡ flashSize → storeAll (blockStores k m) m ≡ overlay (blockStart k) (blockFF k) m
+unfolding blockStores
+storeAll-blockStores k m h =
+    storeAll-programStores (blockStart k) (blockEnd k) (blockFF k) m flashPages h (block-forward k) (omega (arith, block-inside k)) (length-blockFF k)
 
 -- "A block erase sets its range to FFh."
 pub blockStores-programmed : (k : Block) (m : List ℕ) → length m ≡ flashSize → Programmed (blockStart k) (blockFF k) m (storeAll (blockStores k m) m)

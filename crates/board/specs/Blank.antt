@@ -4,6 +4,9 @@ use mathlib.Core.Option.{Option, none, some}
 use Prim.Native.Nat.{ℕ, suc}
 use lib.Dec.{eqb}
 use Rattle.words.specs.Words.{if_then_else_, part}
+use Rattle.board.specs.Memory.{flashAddress}
+pub use Rattle.board.specs.declared.blank.Used.{Used}
+pub use Rattle.board.specs.declared.blank.Used.the-variants.{At, Nowhere}
 
 -- the address of the first byte that is not FFh, of bytes that stand from address a on
 abbrev pub firstUsed : ℕ → List ℕ → Option ℕ
@@ -13,3 +16,8 @@ firstUsed a (x ∷ xs) = if eqb x 0xFF then firstUsed (suc a) xs else some a
 -- "the first such address" from a to e of a flash
 unfoldable pub usedIn : ℕ → ℕ → List ℕ → Option ℕ
 usedIn a e f = firstUsed a (part a e f)
+
+-- the finding as the search answers it
+abbrev pub usedOf : Option ℕ → Used
+usedOf none = Nowhere
+usedOf (some x) = At (flashAddress x)

@@ -5,6 +5,8 @@ use Prim.Native.Nat.{ℕ, _+_, _*_, _/_, _%_}
 use lib.Dec.{eqb, leb}
 use Rattle.words.specs.Words.{if_then_else_, among}
 pub use Rattle.board.specs.declared.config.Config.{Config}
+pub use Rattle.board.specs.declared.config.ByteRead.{ByteRead}
+pub use Rattle.board.specs.declared.config.ByteRead.the-variants.{Value, Unknown}
 
 -- "BSB FFh, SBV FCh, P1_CF FEh, P3_CF FFh, P4_CF FFh, SSB FFh, EB FFh (index 00h to 06h), and HSB BBh"
 abbrev pub deliveredConfig : Config
@@ -44,6 +46,10 @@ configByte i c =
     if eqb i 0x30 then 0x58 else
     if eqb i 0x31 then 0xD7 else
     if eqb i 0x60 then 0xF7 else 0xDF
+
+-- the byte of any index
+unfoldable pub byteRead : ℕ → Config → ByteRead
+byteRead i c = if readable i then Value (configByte i c) else Unknown
 
 -- "write configuration byte": the byte of that index, and the others as they were
 abbrev pub withByte : ℕ → ℕ → Config → Config

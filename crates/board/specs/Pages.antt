@@ -1,8 +1,10 @@
 -- Every change of flash is a list of page stores, made one after another. Assumes nothing: these are definitions.
+use mathlib.Core.Bool.{_&&_}
 use mathlib.Core.List.{List, [], _∷_}
-use Prim.Native.Nat.{ℕ, zero, suc, _-_, _*_, _/_}
-use lib.ListN.{take, drop, replicate}
-use Rattle.words.specs.Words.{count, overlay}
+use Prim.Native.Nat.{ℕ, zero, suc, _+_, _*_, _/_}
+use lib.Dec.{leb}
+use lib.ListN.{length, take, drop, replicate}
+use Rattle.words.specs.Words.{if_then_else_, count, overlay}
 use Rattle.board.specs.Memory.{Page, page, pageSize, flashPages, blankFlash}
 pub use Rattle.board.specs.declared.address.Block.{Block}
 pub use Rattle.board.specs.declared.address.Block.the-variants.{Low, Middle, High}
@@ -23,6 +25,14 @@ storeAll (s ∷ ss) m = storeAll ss (store s m)
 -- the bytes of page p of an image
 abbrev pub pageOf : ℕ → List ℕ → List ℕ
 pageOf p g = take pageSize (drop (pageSize * p) g)
+
+-- a page stored with the bytes d laid over it from its place `at` on; nothing where they pass the page's end or the memory has no
+-- such page
+unfoldable pub pageStore : Page → ℕ → List ℕ → List ℕ → List Store
+pageStore p at d m =
+    if leb (at + length d) pageSize && leb (pageSize * p .0 + pageSize) (length m)
+    then record { page = p; bytes = overlay at d (pageOf (p .0) m) } ∷ [] else
+    []
 
 -- the stores of n pages of an image, from page p on
 abbrev pub pagesFrom : List ℕ → ℕ → ℕ → List Store

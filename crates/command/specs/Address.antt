@@ -15,7 +15,7 @@ mostBytes = 1024
 abbrev pub badRange : Range → Bool
 badRange r = ltb (rangeEnd r) (rangeStart r) || leb (memorySize r) (rangeEnd r) || ltb mostBytes (rangeCount r)
 
--- "backward, outside, .. except blank check": a blank check may be as long as the flash
+-- "backward, outside": "over 1,024 bytes" does not count for a "blank check", which may be as long as the flash
 abbrev pub badCheck : FlashAddress → FlashAddress → Bool
 badCheck a e = ltb (e .0) (a .0) || leb flashSize (e .0)
 

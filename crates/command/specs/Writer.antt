@@ -19,12 +19,12 @@ pub use Rattle.command.specs.declared.writer.Written.the-variants.{Wrote
 
 -- ---- the bytes of a command
 
--- "Addresses .. are high byte first": two addresses, one after the other
+-- "Addresses .. are high byte first": one address, and the two of a range
 abbrev pub addressBytes : ℕ → List ℕ
 addressBytes a = a / 256 ∷ a % 256 ∷ []
 
-abbrev pub rangeBytes : ℕ → ℕ → List ℕ
-rangeBytes a e = addressBytes a ++ addressBytes e
+abbrev pub rangeAddresses : ℕ → ℕ → List ℕ
+rangeAddresses a e = addressBytes a ++ addressBytes e
 
 -- "01h, 00h flash or 01h EEPROM", "03h, 00h flash or 02h EEPROM"
 abbrev pub programSelector : Range → ℕ
@@ -48,9 +48,9 @@ zeros n = replicate n 0x00
 -- the rows of the table; d the data and s the suffix of a program transfer
 unfoldable pub commandBytes : Command → List ℕ → List ℕ → List ℕ
 commandBytes (Program r) d s =
-    (0x01 ∷ programSelector r ∷ rangeBytes (rangeStart r) (rangeEnd r)) ++ zeros fillerSize ++ zeros (padding (rangeStart r)) ++ d ++ s
-commandBytes (Read r) d s = 0x03 ∷ readSelector r ∷ rangeBytes (rangeStart r) (rangeEnd r)
-commandBytes (BlankCheck a e) d s = 0x03 ∷ 0x01 ∷ rangeBytes (a .0) (e .0)
+    (0x01 ∷ programSelector r ∷ rangeAddresses (rangeStart r) (rangeEnd r)) ++ zeros fillerSize ++ zeros (padding (rangeStart r)) ++ d ++ s
+commandBytes (Read r) d s = 0x03 ∷ readSelector r ∷ rangeAddresses (rangeStart r) (rangeEnd r)
+commandBytes (BlankCheck a e) d s = 0x03 ∷ 0x01 ∷ rangeAddresses (a .0) (e .0)
 commandBytes (EraseBlock k) d s = 0x04 ∷ 0x00 ∷ blockCode k ∷ []
 commandBytes EraseChip d s = 0x04 ∷ 0x00 ∷ 0xFF ∷ []
 commandBytes (WriteByte i v) d s = 0x04 ∷ 0x01 ∷ i ∷ v ∷ []
@@ -78,11 +78,11 @@ badWrite ReadVersion d s = false
 badWrite (ReadByte i) d s = not (readable i)
 badWrite ReadHsb d s = false
 
--- "8: start after end, range outside its memory, more than 1,024 bytes to program or read, .. or start address above 7FFFh"
+-- 8: "writer: start after end, range outside its memory, more than 1,024 bytes to program or read, .. or start address above 7FFFh"
 abbrev pub cannotWrite : Command → List ℕ → List ℕ → Bool
 cannotWrite k d s = badAddress k || badWrite k d s
 
--- "9: room too short"; "The writer checks 8 before 9"
+-- 9: "writer: room too short"; "The writer checks 8 before 9"
 unfoldable pub writeCommand : Command → List ℕ → List ℕ → List ℕ → Written
 writeCommand k d s room =
     if cannotWrite k d s then Unwritten 8 else

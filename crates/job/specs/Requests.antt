@@ -11,7 +11,8 @@ pub record Span : Type 0 where
   pub start : ℕ
   pub size : ℕ
 
--- the requests of the fields from a place up to `end`, in file order, through all groups; a field that goes beyond ends them
+-- the requests of the fields from a place up to `end`, in file order, through all groups; a field that goes beyond ends them. The
+-- first number bounds the calls inside each other, as in fieldsVerdict
 unfoldable pub requestsIn : ℕ → List ℕ → ℕ → ℕ → List Span
 requestsIn zero file at end = []
 requestsIn (suc n) file at end =

@@ -26,11 +26,11 @@ fieldsVerdict (suc n) file at end depth =
     if leb end at then Accepted else field
 
 -- "At most 16,384 bytes"
-abbrev pub mostBytes : ℕ
-mostBytes = 16384
+abbrev pub mostFile : ℕ
+mostFile = 16384
 
 -- "16 file too long, first of all"; "P the tag's offset (0 for 16)"
 unfoldable pub verdict : List ℕ → Verdict
 verdict file =
-    if ltb mostBytes (length file) then Refused 16 0 else
+    if ltb mostFile (length file) then Refused 16 0 else
     fieldsVerdict (length file) file 0 (length file) 0

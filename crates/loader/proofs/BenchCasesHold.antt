@@ -29,13 +29,13 @@ use Rattle.command.specs.Address.{badRange, mostBytes}
 use Rattle.command.specs.Transfer.{padding, bodyPlace, bodyOf, transferLength}
 use Rattle.command.specs.declared.command.Command.{Command}
 use Rattle.command.specs.declared.command.Command.the-variants.{Program, BlankCheck, EraseChip}
-use Rattle.loader.specs.Session.{Session, session, awake, BlankReport}
+use Rattle.loader.specs.Session.{Session, session, idle, BlankReport}
 use Rattle.loader.specs.Result.{Board, board, Result, reply, next, Done}
 use Rattle.loader.specs.Commands.{stall, perform, obey, obeyForm, accept, blankEffect, stores, program}
-use Rattle.loader.specs.Requests.{mostData, requestOf, respond, upload as uploadOf, send, getStatus as getStatusOf}
+use Rattle.loader.specs.Requests.{mostData, requestOf, respond, upload, send, getStatus}
 use Rattle.loader.specs.Refusals.{refusal, replySize}
 use Rattle.loader.specs.Step.{step, ask, lastSent}
-use Rattle.loader.specs.BenchCases.{Ready, Unnamed, download, getStatus, upload, Line, line, taken, notBlank, Answers, programHead, transfer, Programs, checkAll, Finds, Erases, WritesHsb, BenchCases}
+use Rattle.loader.specs.BenchCases.{Ready, Unnamed, download, askStatus, askUpload, Line, line, taken, notBlank, Answers, programHead, transfer, Programs, checkAll, Finds, Erases, WritesHsb, BenchCases}
 use Rattle.loader.proofs.Ready.{commanded, statusOf}
 
 -- a case that names the first bytes of the data and the answer
@@ -104,10 +104,10 @@ programs-by a e n k forward inside short hn hk = record {
 -- ---- the blank check (case 9)
 
 -- the upload of a pending blank report
-uploadOf-report : (c : Config) (f e : List ℕ) → length f ≡ flashSize → length e ≡ eepromSize → (u : Unnamed)
-    → step (board (session 5 0x05 (BlankReport (flashAddress 0x1234))) c f e) (upload u 2) ≡ reply c Done (0x12 ∷ 0x34 ∷ []) awake
-unfolding step ask refusal requestOf respond uploadOf send
-uploadOf-report c f e hf he u =
+upload-report : (c : Config) (f e : List ℕ) → length f ≡ flashSize → length e ≡ eepromSize → (u : Unnamed)
+    → step (board (session 5 0x05 (BlankReport (flashAddress 0x1234))) c f e) (askUpload u 2) ≡ reply c Done (0x12 ∷ 0x34 ∷ []) idle
+unfolding step ask refusal requestOf respond upload send
+upload-report c f e hf he u =
     let t5 : ltb (u .room) replySize ≡ false = le-ltb (u .room) replySize (u .enough) in
     rw (hf, he, t5)
 
@@ -121,12 +121,12 @@ case-9 = record {
       let e1 : step b (checkAll u) ≡ accept (BlankCheck (flashAddress 0) (flashAddress lastFlash)) (blankEffect c (some 0x1234)) =
       commanded r u (0x03 ∷ 0x01 ∷ 0x00 ∷ 0x00 ∷ 0x7F ∷ 0xFF ∷ []) (lit< tt) (lit≤ tt)
       ∙ ap (λ o. accept (BlankCheck (flashAddress 0) (flashAddress lastFlash)) (blankEffect c o)) found in
-      let e2 : step (board report c (b .flash) (b .eeprom)) (getStatus u) ≡ getStatusOf (board report c (b .flash) (b .eeprom)) =
+      let e2 : step (board report c (b .flash) (b .eeprom)) (askStatus u) ≡ getStatus (board report c (b .flash) (b .eeprom)) =
       statusOf report c (b .flash) (b .eeprom) (r .flash-size) (r .eeprom-size) refl refl u in
-      let e3 = uploadOf-report c (b .flash) (b .eeprom) (r .flash-size) (r .eeprom-size) u in (
+      let e3 = upload-report c (b .flash) (b .eeprom) (r .flash-size) (r .eeprom-size) u in (
         ap line e1,
-        ap (λ x. lastSent (next b x) (getStatus u ∷ upload u 2 ∷ [])) e1
-            ∙ ap (λ x. lastSent (next (board report c (b .flash) (b .eeprom)) x) (upload u 2 ∷ [])) e2
+        ap (λ x. lastSent (next b x) (askStatus u ∷ askUpload u 2 ∷ [])) e1
+            ∙ ap (λ x. lastSent (next (board report c (b .flash) (b .eeprom)) x) (askUpload u 2 ∷ [])) e2
             ∙ ap (λ x. x .sent) e3,
       );
 }

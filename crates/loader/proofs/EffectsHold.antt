@@ -24,7 +24,7 @@ use Rattle.loader.specs.Result.{Board, Result, reply, Outcome, Refused}
 use Rattle.loader.specs.Commands.{perform, accept, blankEffect}
 use Rattle.loader.specs.Refusals.{refusal}
 use Rattle.loader.specs.Step.{ask}
-use Rattle.loader.specs.Effects.{Leaves, Effects, Moves-nothing, RefusalsMoveNothing}
+use Rattle.loader.specs.Effects.{Leaves, Effects, MovesNothing, RefusalsMoveNothing}
 use Rattle.loader.proofs.Shape.{Passed, Shape, refused, still, did, shape, isRefused}
 
 -- an answer that changes neither memory nor configuration
@@ -86,7 +86,7 @@ effects b setup d n = leaves b (refusal b setup d n) d (ask b setup d n) (shape 
 
 -- ---- refusals
 
-moves-nothing : (b : Board) (number k : ℕ) (d : List ℕ) (r : Result) → Shape b number d r → r .outcome ≡ Refused k → Moves-nothing b k number r
+moves-nothing : (b : Board) (number k : ℕ) (d : List ℕ) (r : Result) → Shape b number d r → r .outcome ≡ Refused k → MovesNothing b k number r
 moves-nothing b number k d r (refused q) e =
     let o : Refused number ≡ Refused k = sym (ap (λ x. x .outcome) q) ∙ e in
     record { its-number = cc; nothing-sent = rw q; no-pages = rw q; board-stays = rw q }

@@ -28,13 +28,13 @@ use Rattle.board.proofs.BlankLaws.{marks, usedIn-same, usedIn-one}
 use Rattle.command.specs.Form.{form}
 use Rattle.command.specs.declared.command.Command.{Command}
 use Rattle.command.specs.declared.command.Command.the-variants.{Program, Read, BlankCheck, EraseBlock, EraseChip, WriteByte, WriteHsb, StartReset, StartAt, ReadVersion, ReadByte, ReadHsb}
-use Rattle.loader.specs.Session.{Session, session, awake, Pending, Nothing, MemoryRead, BlankReport, OneByte, Start}
+use Rattle.loader.specs.Session.{Session, session, idle, Pending, Nothing, MemoryRead, BlankReport, OneByte, Start}
 use Rattle.loader.specs.Result.{Board, board, Result, reply, next, Outcome}
 use Rattle.loader.specs.Commands.{stall, perform, accept, blankEffect, obey, obeyForm}
-use Rattle.loader.specs.Requests.{Request, Dnload, Upload, GetStatus, GetState, ClrStatus, Abort, Other, requestOf, dnload, leave, upload, send, respond}
+use Rattle.loader.specs.Requests.{Request, Dnload, Upload, GetStatus, GetState, ClrStatus, Abort, Other, requestOf, dnload, endDownload, upload, send, respond}
 use Rattle.loader.specs.Refusals.{refusal}
 use Rattle.loader.specs.Step.{Event, Ask, PowerUp, ask, step, Report, reports, lastSent}
-use Rattle.loader.specs.BenchCases.{Ready, Unnamed, download, getStatus}
+use Rattle.loader.specs.BenchCases.{Ready, Unnamed, download, askStatus}
 use Rattle.loader.specs.LevelTwo.{SameBlank, Alike, isChipErase, upToErase, KeptSecret, KeptSecretEver, Sized, probe, ToldApart}
 use Rattle.loader.proofs.Shape.{Passed, Shape, refused, still, did, shape}
 use Rattle.loader.proofs.Ready.{commanded, statusOf}
@@ -75,7 +75,7 @@ module _ (s : Session) (c : Config) (f f′ e e′ : List ℕ) (lv : level c ≡
   obeyForm-same (some k) d = obey-same k d
 
   dnload-same : (n : ℕ) (d : List ℕ) → dnload (board s c f e) n d ≡ dnload (board s c f′ e′) n d
-  unfolding dnload leave stall
+  unfolding dnload endDownload stall
   dnload-same n d = rw (obeyForm-same (form d) d)
 
   respond-same : (q : Request) (d : List ℕ) → respond (board s c f e) q d ≡ respond (board s c f′ e′) q d
@@ -232,34 +232,34 @@ module _ (s : Session) (c : Config) (f e : List ℕ) (hf : length f ≡ flashSiz
   checked : Bool → Session
   checked t = session 3 (if t then 0x00 else 0x05) (if t then Nothing else BlankReport (flashAddress x))
 
-  after-check : (t : Bool) → step (board (checked t) c f e) (getStatus u) .sent ≡ told t
+  after-check : (t : Bool) → step (board (checked t) c f e) (askStatus u) .sent ≡ told t
   unfolding checked told
   after-check true = ap (λ r. r .sent) (statusOf (session 3 0x00 Nothing) c f e hf he refl refl u)
   after-check false =
       ap (λ r. r .sent) (statusOf (session 3 0x05 (BlankReport (flashAddress x))) c f e hf he (le-ltb lastFlash x (omega arith)) refl u)
 
-  ready : Ready (level c) (board awake c f e)
+  ready : Ready (level c) (board idle c f e)
   ready = record { in-state-2 = refl; valid = refl; flash-size = hf; eeprom-size = he; at-level = refl }
 
   check : List ℕ
   check = 0x03 ∷ 0x01 ∷ x / 256 ∷ x % 256 ∷ x / 256 ∷ x % 256 ∷ []
 
-  settled : (t : Bool) → next (board awake c f e) (accept (BlankCheck (flashAddress x) (flashAddress x)) (blankEffect c (if t then none else some x))) ≡ board (checked t) c f e
+  settled : (t : Bool) → next (board idle c f e) (accept (BlankCheck (flashAddress x) (flashAddress x)) (blankEffect c (if t then none else some x))) ≡ board (checked t) c f e
   unfolding checked
   settled true = refl
   settled false = refl
 
-  after-power-up : next (board awake c f e) (step (board awake c f e) (download u check)) ≡ board (checked (eqb (getD f x 0) 0xFF)) c f e
+  after-power-up : next (board idle c f e) (step (board idle c f e) (download u check)) ≡ board (checked (eqb (getD f x 0) 0xFF)) c f e
   unfolding check form obey perform
   after-power-up =
       let w : x / 256 * 256 + x % 256 ≡ x = omega arith in
       let hx : x < length f = omega arith in
-      ap (next (board awake c f e)) (commanded ready u check (lit< tt) (lit≤ tt))
+      ap (next (board idle c f e)) (commanded ready u check (lit< tt) (lit≤ tt))
       ∙ rw (w, le-ltb x x (omega arith), lt-leb flashSize x h, usedIn-one f x hx) (settled (eqb (getD f x 0) 0xFF))
 
   tells : lastSent (board s c f e) (probe u x) ≡ told (eqb (getD f x 0) 0xFF)
   unfolding step check
-  tells = ap (λ y. step y (getStatus u) .sent) after-power-up ∙ after-check (eqb (getD f x 0) 0xFF)
+  tells = ap (λ y. step y (askStatus u) .sent) after-power-up ∙ after-check (eqb (getD f x 0) 0xFF)
 
 -- either two flashes have the same blank bytes below n, or there is an address where one is blank and the other is not
 module _ (f f′ : List ℕ) where

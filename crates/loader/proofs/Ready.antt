@@ -15,10 +15,10 @@ use Rattle.command.specs.Form.{form}
 use Rattle.loader.specs.Session.{Session}
 use Rattle.loader.specs.Result.{Board, board}
 use Rattle.loader.specs.Commands.{obeyForm}
-use Rattle.loader.specs.Requests.{mostData, requestOf, respond, dnload, getStatus as getStatusOf}
+use Rattle.loader.specs.Requests.{mostData, requestOf, respond, dnload, getStatus}
 use Rattle.loader.specs.Refusals.{refusal, replySize, badSession}
 use Rattle.loader.specs.Step.{step, ask}
-use Rattle.loader.specs.BenchCases.{Ready, Unnamed, download, getStatus}
+use Rattle.loader.specs.BenchCases.{Ready, Unnamed, download, askStatus}
 
 pub commanded : {l : Level} {b : Board} → Ready l b → (u : Unnamed) (d : List ℕ) → 0 < length d → length d ≤ mostData
     → step b (download u d) ≡ obeyForm b (form d) d
@@ -36,7 +36,7 @@ commanded {l} {b} r u d p q =
 
 -- GETSTATUS, of any valid session but that of a running application
 pub statusOf : (s : Session) (c : Config) (f e : List ℕ) → length f ≡ flashSize → length e ≡ eepromSize → badSession s ≡ false → eqb (s .state) 0 ≡ false
-    → (u : Unnamed) → step (board s c f e) (getStatus u) ≡ getStatusOf (board s c f e)
+    → (u : Unnamed) → step (board s c f e) (askStatus u) ≡ getStatus (board s c f e)
 unfolding step ask refusal requestOf respond
 statusOf s c f e hf he v z u =
     let t5 : ltb (u .room) replySize ≡ false = le-ltb (u .room) replySize (u .enough) in

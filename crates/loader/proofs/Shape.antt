@@ -20,7 +20,7 @@ use Rattle.loader.specs.Session.{Session, Pending, Nothing, MemoryRead, 
 use Rattle.loader.specs.Levels.{levelStatus}
 use Rattle.loader.specs.Result.{Board, Result, reply, Outcome, Done, Stall, Started, Refused}
 use Rattle.loader.specs.Commands.{stall, perform, accept, forbidden, obey, obeyForm}
-use Rattle.loader.specs.Requests.{Request, Dnload, Upload, GetStatus, GetState, ClrStatus, Abort, Other, requestOf, startPending, startOf, leave, mostData, dnload, sendable, send, upload, respond}
+use Rattle.loader.specs.Requests.{Request, Dnload, Upload, GetStatus, GetState, ClrStatus, Abort, Other, requestOf, startPending, startOf, endDownload, mostData, dnload, sendable, send, upload, respond}
 use Rattle.loader.specs.Refusals.{refusal}
 use Rattle.loader.specs.Step.{ask}
 
@@ -74,9 +74,9 @@ module _ (b : Board) (number : ℕ) (d : List ℕ) (hf : length (b .flash) ≡ f
   of-form none = of-stall
   of-form (some k) = of-obey k
 
-  of-leave : Shape b number d (leave b)
-  unfolding leave
-  of-leave =
+  of-endDownload : Shape b number d (endDownload b)
+  unfolding endDownload
+  of-endDownload =
       pick (among (b .session .state) (3 ∷ 5 ∷ []) && startPending (b .session .pending))
       (λ x. still _ _ _ (start-plain (b .session .pending)) refl) (λ x.
       pick (eqb (b .session .state) 5) (λ y. still _ _ _ refl refl) (λ y. of-stall))
@@ -85,7 +85,7 @@ module _ (b : Board) (number : ℕ) (d : List ℕ) (hf : length (b .flash) ≡ f
   unfolding respond dnload upload send
   of-respond (Dnload n) =
       pick (ltb mostData n) (λ x. of-stall) (λ x.
-      pick (eqb n 0) (λ y. of-leave) (λ y.
+      pick (eqb n 0) (λ y. of-endDownload) (λ y.
       pick (among (b .session .state) (2 ∷ 5 ∷ [])) (λ z. of-form (form d)) (λ z. of-stall)))
   of-respond (Upload n) =
       pick (among (b .session .state) (5 ∷ 9 ∷ []) && ltb 0 n && sendable (b .session .pending) (level (b .config)))

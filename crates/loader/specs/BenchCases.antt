@@ -35,11 +35,11 @@ pub record Unnamed : Type 0 where
 abbrev pub download : Unnamed → List ℕ → Event
 download u d = Ask (0x21 ∷ 1 ∷ u .low ∷ u .high ∷ 0 ∷ 0 ∷ length d % 256 ∷ length d / 256 ∷ []) d (u .room)
 
-abbrev pub getStatus : Unnamed → Event
-getStatus u = Ask (0xA1 ∷ 3 ∷ 0 ∷ 0 ∷ 0 ∷ 0 ∷ 6 ∷ 0 ∷ []) [] (u .room)
+abbrev pub askStatus : Unnamed → Event
+askStatus u = Ask (0xA1 ∷ 3 ∷ 0 ∷ 0 ∷ 0 ∷ 0 ∷ 6 ∷ 0 ∷ []) [] (u .room)
 
-abbrev pub upload : Unnamed → ℕ → Event
-upload u n = Ask (0xA1 ∷ 2 ∷ u .low ∷ u .high ∷ 0 ∷ 0 ∷ n % 256 ∷ n / 256 ∷ []) [] (u .room)
+abbrev pub askUpload : Unnamed → ℕ → Event
+askUpload u n = Ask (0xA1 ∷ 2 ∷ u .low ∷ u .high ∷ 0 ∷ 0 ∷ n % 256 ∷ n / 256 ∷ []) [] (u .room)
 
 -- what a bench line shows of an answer: outcome, state, status, pages
 pub record Line : Type 0 where
@@ -98,10 +98,10 @@ checkAll u = download u (0x03 ∷ 0x01 ∷ 0x00 ∷ 0x00 ∷ 0x7F ∷ 0xFF ∷ [
 -- a board at level l, first byte not FFh at x: 05h, then after GETSTATUS the upload o
 pub record Finds (l : Level) (x : ℕ) (o : List ℕ) : Type 0 where
   pub finds : (b : Board) → Ready l b → FirstUsedAt (b .flash) x → (u : Unnamed)
-      → (line (step b (checkAll u)) ≡ notBlank) × (lastSent b (checkAll u ∷ getStatus u ∷ upload u 2 ∷ []) ≡ o)
+      → (line (step b (checkAll u)) ≡ notBlank) × (lastSent b (checkAll u ∷ askStatus u ∷ askUpload u 2 ∷ []) ≡ o)
 
 -- "BSB FFh, SBV FCh", SSB as the level says, "EEPROM and the other bytes stay"
-pub record Erased-config (before after : Config) : Type 0 where
+pub record ErasedConfig (before after : Config) : Type 0 where
   pub bsb : after .bsb ≡ 0xFF
   pub sbv : after .sbv ≡ 0xFC
   pub p1cf : after .p1cf ≡ before .p1cf
@@ -115,7 +115,7 @@ pub record Erases (l : Level) (pageCount : ℕ) (m : Level) : Type 0 where
   pub erases : (b : Board) → Ready l b → (u : Unnamed)
       → let r : Result = step b (download u (0x04 ∷ 0x00 ∷ 0xFF ∷ [])) in
       (line r ≡ taken pageCount) × (level (next b r .config) ≡ m) × (next b r .flash ≡ blankFlash) × (next b r .eeprom ≡ b .eeprom)
-      × Erased-config (b .config) (next b r .config)
+      × ErasedConfig (b .config) (next b r .config)
 
 -- HSB v, sent to a board at level l that has HSB old, is taken and leaves HSB new
 pub record WritesHsb (l : Level) (v old new : ℕ) : Type 0 where

@@ -28,8 +28,8 @@ unfoldable pub stall : Board → Result
 stall b = reply (b .config) Stall [] (session 10 (if eqb (b .session .state) 10 then b .session .status else 0x0F) Nothing)
 
 -- "A status above is set with state 10 and nothing pending, and nothing else moves."
-abbrev pub fail : Board → ℕ → Result
-fail b status = reply (b .config) Done [] (session 10 status Nothing)
+abbrev pub setStatus : Board → ℕ → Result
+setStatus b status = reply (b .config) Done [] (session 10 status Nothing)
 
 -- ---- an accepted command
 
@@ -91,11 +91,11 @@ accept k x = record
 abbrev pub forbidden : Board → Command → Bool
 forbidden b k = not (eqb (levelStatus k (level (b .config))) 0x00)
 
--- "Order: form, level, address .. : 08h, and for program at last its whole length."
+-- "Order: form, level, address .. : 08h, and for program at last its whole length.": a command, whose form is right
 unfoldable pub obey : Board → Command → List ℕ → Result
 obey b k d =
-    if forbidden b k then fail b (levelStatus k (level (b .config))) else
-    if badAddress k then fail b 0x08 else
+    if forbidden b k then setStatus b (levelStatus k (level (b .config))) else
+    if badAddress k then setStatus b 0x08 else
     if badLength k d then stall b else
     accept k (perform b k d)
 

@@ -99,7 +99,7 @@ abbrev pub Effects : Type 0
 Effects = (b : Board) (setup d : List ℕ) (n : ℕ) → Leaves b d (ask b setup d n)
 
 -- "A refusal gives its number, length 0 and 0 pages; session, memories, configuration and reply stay."
-pub record Moves-nothing (b : Board) (k : ℕ) (number : ℕ) (r : Result) : Type 0 where
+pub record MovesNothing (b : Board) (k : ℕ) (number : ℕ) (r : Result) : Type 0 where
   pub its-number : number ≡ k
   pub nothing-sent : r .sent ≡ []
   pub no-pages : pages r ≡ 0
@@ -107,4 +107,4 @@ pub record Moves-nothing (b : Board) (k : ℕ) (number : ℕ) (r : Result) : Typ
 
 abbrev pub RefusalsMoveNothing : Type 0
 RefusalsMoveNothing = (b : Board) (setup d : List ℕ) (n k : ℕ)
-    → ask b setup d n .outcome ≡ Refused k → Moves-nothing b k (refusal b setup d n) (ask b setup d n)
+    → ask b setup d n .outcome ≡ Refused k → MovesNothing b k (refusal b setup d n) (ask b setup d n)

@@ -15,7 +15,7 @@ use Rattle.command.specs.declared.command.Command.{Command}
 use Rattle.command.specs.declared.command.Command.the-variants.{Program, Read, BlankCheck, EraseBlock, EraseChip, WriteByte, WriteHsb, StartReset, StartAt, ReadVersion, ReadByte, ReadHsb}
 use Rattle.loader.specs.Result.{Board, Result, next}
 use Rattle.loader.specs.Step.{Event, PowerUp, step, reports, lastSent}
-use Rattle.loader.specs.BenchCases.{Unnamed, download, getStatus}
+use Rattle.loader.specs.BenchCases.{Unnamed, download, askStatus}
 
 -- "the same blank flash bytes": FFh at the same addresses
 abbrev pub SameBlank : List ℕ → List ℕ → Type 0
@@ -67,7 +67,7 @@ pub record Sized (b : Board) : Type 0 where
 
 -- power-up, one blank check of the address x, and GETSTATUS
 abbrev pub probe : Unnamed → ℕ → List Event
-probe u x = PowerUp ∷ download u (0x03 ∷ 0x01 ∷ x / 256 ∷ x % 256 ∷ x / 256 ∷ x % 256 ∷ []) ∷ getStatus u ∷ []
+probe u x = PowerUp ∷ download u (0x03 ∷ 0x01 ∷ x / 256 ∷ x % 256 ∷ x / 256 ∷ x % 256 ∷ []) ∷ askStatus u ∷ []
 
 -- "boards with different blank bytes are told apart by one blank check": of any session and configuration, by what the host is
 -- sent

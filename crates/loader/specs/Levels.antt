@@ -11,37 +11,37 @@ use Rattle.command.specs.declared.command.Command.the-variants.{Program, Read, 
 
 -- "program flash or EEPROM, block erase, write HSB"; "read flash or EEPROM, read HSB"; "write SSB", with its value; the last row
 pub data Row : Type 0 where
-  Writing : Row
-  Reading : Row
-  WritingSsb : ℕ → Row
-  Free : Row
+  WriteRow : Row
+  ReadRow : Row
+  SsbRow : ℕ → Row
+  FreeRow : Row
 
 abbrev pub rowOf : Command → Row
-rowOf (Program r) = Writing
-rowOf (EraseBlock k) = Writing
-rowOf (WriteHsb v) = Writing
-rowOf (Read r) = Reading
-rowOf ReadHsb = Reading
-rowOf (WriteByte i v) = if eqb i ssbIndex then WritingSsb v else Free
-rowOf (BlankCheck a e) = Free
-rowOf EraseChip = Free
-rowOf StartReset = Free
-rowOf (StartAt a) = Free
-rowOf ReadVersion = Free
-rowOf (ReadByte i) = Free
+rowOf (Program r) = WriteRow
+rowOf (EraseBlock k) = WriteRow
+rowOf (WriteHsb v) = WriteRow
+rowOf (Read r) = ReadRow
+rowOf ReadHsb = ReadRow
+rowOf (WriteByte i v) = if eqb i ssbIndex then SsbRow v else FreeRow
+rowOf (BlankCheck a e) = FreeRow
+rowOf EraseChip = FreeRow
+rowOf StartReset = FreeRow
+rowOf (StartAt a) = FreeRow
+rowOf ReadVersion = FreeRow
+rowOf (ReadByte i) = FreeRow
 
 -- a cell: the status that it gives, 00h for yes; "An SSB value not in its cell gives 03h."
 abbrev pub cell : Row → Level → ℕ
-cell Writing L0 = 0x00
-cell Writing L1 = 0x03
-cell Writing L2 = 0x03
-cell Reading L0 = 0x00
-cell Reading L1 = 0x00
-cell Reading L2 = 0x0B
-cell (WritingSsb v) L0 = if among v (0xFE ∷ 0xFC ∷ []) then 0x00 else 0x03
-cell (WritingSsb v) L1 = if among v (0xFC ∷ []) then 0x00 else 0x03
-cell (WritingSsb v) L2 = 0x03
-cell Free l = 0x00
+cell WriteRow L0 = 0x00
+cell WriteRow L1 = 0x03
+cell WriteRow L2 = 0x03
+cell ReadRow L0 = 0x00
+cell ReadRow L1 = 0x00
+cell ReadRow L2 = 0x0B
+cell (SsbRow v) L0 = if among v (0xFE ∷ 0xFC ∷ []) then 0x00 else 0x03
+cell (SsbRow v) L1 = if among v (0xFC ∷ []) then 0x00 else 0x03
+cell (SsbRow v) L2 = 0x03
+cell FreeRow l = 0x00
 
 -- what the level says to a command
 abbrev pub levelStatus : Command → Level → ℕ

@@ -12,7 +12,7 @@ use Rattle.board.specs.declared.address.Range.the-variants.{Flash, Eeprom}
 use Rattle.board.specs.declared.level.Level.{Level}
 use Rattle.board.specs.declared.level.Level.the-variants.{L0, L1, L2}
 use Rattle.command.specs.Form.{form}
-use Rattle.loader.specs.Session.{Session, session, awake, Pending, Nothing, MemoryRead, BlankReport, OneByte, Start}
+use Rattle.loader.specs.Session.{Session, session, idle, Pending, Nothing, MemoryRead, BlankReport, OneByte, Start}
 use Rattle.loader.specs.Result.{Board, Result, reply, Outcome, Done, Started}
 use Rattle.loader.specs.Commands.{stall, obeyForm}
 pub use Rattle.loader.specs.declared.request.Request.{Request}
@@ -67,7 +67,7 @@ getState b = reply (b .config) Done (b .session .state ∷ []) (b .session)
 
 -- "CLRSTATUS in 10, ABORT in 2, 3, 5, 6, 9: state 2, status 00h, nothing pending. Elsewhere they stall."
 abbrev pub clearIn : List ℕ → Board → Result
-clearIn states b = if among (b .session .state) states then reply (b .config) Done [] awake else stall b
+clearIn states b = if among (b .session .state) states then reply (b .config) Done [] idle else stall b
 
 abbrev pub clrStatus : Board → Result
 clrStatus b = clearIn (10 ∷ []) b
@@ -85,7 +85,7 @@ startPending (BlankReport a) = false
 startPending (OneByte v) = false
 startPending (Start k a) = true
 
--- "the answer is start with its kind and address"
+-- "the answer is start with its kind and address"; asked of a pending start alone
 abbrev pub startOf : Pending → Outcome
 startOf Nothing = Done
 startOf (MemoryRead r) = Done
@@ -95,8 +95,8 @@ startOf (Start k a) = Started k a
 
 -- "wLength 0: in 3 or 5 with a start pending, the answer is start with its kind and address, state 0, nothing pending; else in 5
 -- state 6, nothing pending (both keep the status); else stall."
-unfoldable pub leave : Board → Result
-leave b =
+unfoldable pub endDownload : Board → Result
+endDownload b =
     if among (b .session .state) (3 ∷ 5 ∷ []) && startPending (b .session .pending)
     then reply (b .config) (startOf (b .session .pending)) [] (session 0 (b .session .status) Nothing) else
     if eqb (b .session .state) 5 then reply (b .config) Done [] (session 6 (b .session .status) Nothing) else
@@ -110,7 +110,7 @@ mostData = 1103
 unfoldable pub dnload : Board → ℕ → List ℕ → Result
 dnload b n d =
     if ltb mostData n then stall b else
-    if eqb n 0 then leave b else
+    if eqb n 0 then endDownload b else
     if among (b .session .state) (2 ∷ 5 ∷ []) then obeyForm b (form d) d else
     stall b
 
@@ -130,14 +130,14 @@ sendable (OneByte v) l = true
 sendable (Start k a) l = false
 
 -- the bytes of a range
-abbrev pub rangeBytes : Board → Range → List ℕ
-rangeBytes b (Flash a e) = part (a .0) (e .0) (b .flash)
-rangeBytes b (Eeprom a e) = part (a .0) (e .0) (b .eeprom)
+abbrev pub rangeContent : Board → Range → List ℕ
+rangeContent b (Flash a e) = part (a .0) (e .0) (b .flash)
+rangeContent b (Eeprom a e) = part (a .0) (e .0) (b .eeprom)
 
 -- what is pending, as bytes: "the two-byte blank report" is "high byte first"
 abbrev pub pendingBytes : Board → Pending → List ℕ
 pendingBytes b Nothing = []
-pendingBytes b (MemoryRead r) = rangeBytes b r
+pendingBytes b (MemoryRead r) = rangeContent b r
 pendingBytes b (BlankReport a) = a .0 / 256 ∷ a .0 % 256 ∷ []
 pendingBytes b (OneByte v) = v ∷ []
 pendingBytes b (Start k a) = []
@@ -176,7 +176,7 @@ upload b n =
     then send b n (b .session .pending) else
     stall b
 
--- ---- all seven
+-- ---- all of them; DETACH is an Other
 
 unfoldable pub respond : Board → Request → List ℕ → Result
 respond b (Dnload n) d = dnload b n d

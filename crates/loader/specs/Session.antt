@@ -10,6 +10,6 @@ pub use Rattle.loader.specs.declared.session.Session.{Session}
 abbrev pub session : ℕ → ℕ → Pending → Session
 session state status p = record { state = state; status = status; pending = p }
 
--- "Power-up sets state 2, status 00h, nothing pending"
-abbrev pub awake : Session
-awake = session 2 0x00 Nothing
+-- "state 2, status 00h, nothing pending": after power-up, CLRSTATUS and ABORT
+abbrev pub idle : Session
+idle = session 2 0x00 Nothing

@@ -7,7 +7,7 @@ use Rattle.words.specs.Words.{if_then_else_}
 use Rattle.board.specs.Memory.{blankFlash, eepromSize}
 use Rattle.board.specs.Config.{deliveredConfig}
 use Rattle.board.specs.declared.config.Config.{Config}
-use Rattle.loader.specs.Session.{Session, awake}
+use Rattle.loader.specs.Session.{Session, idle}
 use Rattle.loader.specs.Result.{Board, board, Result, reply, next, pages, Outcome, Done, Refused}
 use Rattle.loader.specs.Requests.{requestOf, respond}
 use Rattle.loader.specs.Refusals.{refusal}
@@ -26,13 +26,13 @@ ask b setup d n =
 
 -- "Power-up sets state 2, status 00h, nothing pending, and keeps the rest."
 abbrev pub powerUp : Board → Result
-powerUp b = reply (b .config) Done [] awake
+powerUp b = reply (b .config) Done [] idle
 
 unfoldable pub step : Board → Event → Result
 step b (Ask setup d n) = ask b setup d n
 step b PowerUp = powerUp b
 
--- what host and bench see of a result: outcome and bytes sent, session and configuration after it, page count
+-- all that is told of a result: outcome and bytes sent, session and configuration after it, page count
 pub record Report : Type 0 where
   pub outcome : Outcome
   pub sent : List ℕ
@@ -56,4 +56,4 @@ lastSent b (v ∷ w ∷ vs) = lastSent (next b (step b v)) (w ∷ vs)
 
 -- "a delivered board, all memory FFh"
 abbrev pub deliveredBoard : Board
-deliveredBoard = board awake deliveredConfig blankFlash (replicate eepromSize 0xFF)
+deliveredBoard = board idle deliveredConfig blankFlash (replicate eepromSize 0xFF)

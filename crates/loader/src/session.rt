@@ -1,6 +1,6 @@
 // The session record.
 ghost use mathlib.Core.Path.{_≡_};
-ghost use Rattle.loader.specs.Session.{awake};
+ghost use Rattle.loader.specs.Session.{idle};
 use board::FlashAddress;
 use board::Range;
 
@@ -27,7 +27,7 @@ pub struct Session {
 
 // The session after power-up, whatever it was before; memories and configuration stay.
 pub fn power_up() -> Session
-    ensures { λ r. ⌜ r ≡ awake ⌝ }
+    ensures { λ r. ⌜ r ≡ idle ⌝ }
 {
     Session {
         state: 2,

@@ -2,11 +2,12 @@
 -- Assumes nothing.
 use mathlib.Core.Logic.{_⊎_, ⊎-elim}
 use mathlib.Core.Path.{_≡_, sym, ap, _∙_}
-use mathlib.Core.List.{List, _++_}
+use mathlib.Core.List.{List, [], _++_, append-assoc, append-nil}
 use Prim.Native.Nat.{ℕ, suc, _+_, _-_, _≤_, _<_}
+use native.Mathlib.Nat.{add-assoc, add-zero, zero-add}
 use native.Mathlib.Omega.{arith}
-use lib.ListN.{length, take, drop, getD, length-append, length-drop, List·getD-append}
-use lib.Seq.{length-take-le, take-all, getD-append-add, getD-take, getD-drop, drop-at, drop-drop}
+use lib.ListN.{length, take, drop, getD, length-append, length-drop, take-append-drop, drop-of-length-le, List·getD-append}
+use lib.Seq.{length-take-le, take-all, take-at, take-take, take-add, getD-append-add, getD-take, getD-drop, drop-at, drop-drop, drop-append-le}
 use Rattle.words.specs.Words.{count, part, overlay, Programmed}
 
 -- past a front of length k, put before what a list holds from k on, stands the list's own end
@@ -60,3 +61,41 @@ pub part-whole : (m : List ℕ) (e : ℕ) → length m ≡ suc e → part 0 e m 
 part-whole m e h =
     let z : count 0 e ≡ suc e = omega arith in
     rw z (take-all (suc e) m (omega arith))
+
+-- what lies after a part of a list, and after what the part leaves
+pub drop-take : (k n : ℕ) (l : List ℕ) → k ≤ n → n ≤ length l → drop k (take n l) ++ drop n l ≡ drop k l
+drop-take k n l h le =
+    let t : length (take n l) ≡ n = length-take-le n l le in
+    sym (drop-append-le k (take n l) (drop n l) (omega arith)) ∙ ap (drop k) (take-append-drop n l)
+
+-- bytes laid after other bytes are laid with them
+pub overlay-append : (a : ℕ) (x y m : List ℕ) → a + length x + length y ≤ length m → overlay (a + length x) y (overlay a x m) ≡ overlay a (x ++ y) m
+overlay-append a x y m h =
+    let l : length (take a m ++ x) ≡ a + length x = length-front a x m (omega arith) in
+    let t : take (a + length x) (overlay a x m) ≡ take a m ++ x = take-at (take a m ++ x) (drop (a + length x) m) (a + length x) l in
+    let d : drop (a + length x + length y) (overlay a x m) ≡ drop (a + length x + length y) m
+    = drop-past (take a m ++ x) m (a + length x) (a + length x + length y) l (omega arith) in
+    rw (t, d) (simp (length-append, append-assoc, add-assoc))
+
+-- a part of a memory with bytes laid over the part, laid back, is the memory with those bytes laid over it
+pub overlay-part : (k n at : ℕ) (d m : List ℕ) → at + length d ≤ n → k + n ≤ length m → overlay k (overlay at d (take n (drop k m))) m ≡ overlay (k + at) d m
+overlay-part k n at d m h le =
+    let p : List ℕ = take n (drop k m) in
+    let lp : length p ≡ n = length-take-le n (drop k m) (simp length-drop (omega arith)) in
+    let lo : length (overlay at d p) ≡ n = length-overlay at d p (omega arith) ∙ lp in
+    let tp : take at p ≡ take at (drop k m) = take-take at n (drop k m) (omega arith) in
+    let end : drop (at + length d) p ++ drop (k + n) m ≡ drop (k + at + length d) m
+    = rw (← drop-drop n k m) (drop-take (at + length d) n (drop k m) h (simp length-drop (omega arith)) ∙ drop-drop (at + length d) k m ∙ ap (λ i. drop i m) (sym (add-assoc k at (length d)))) in
+    rw (lo, tp, take-add k at m) (simp (append-assoc, end))
+
+-- no bytes laid over a memory leave it
+pub overlay-none : (a : ℕ) (m : List ℕ) → overlay a [] m ≡ m
+overlay-none a m = simp (append-nil, add-zero) (take-append-drop a m)
+
+-- bytes laid from the front on, with what is left of the memory after them
+pub overlay-front : (d m : List ℕ) → overlay 0 d m ≡ d ++ drop (length d) m
+overlay-front d m = rw (zero-add (length d))
+
+-- as many bytes as the memory has
+pub overlay-whole : (d m : List ℕ) → length d ≡ length m → overlay 0 d m ≡ d
+overlay-whole d m h = overlay-front d m ∙ rw (drop-of-length-le m {i = length d} (omega arith)) (append-nil d)

@@ -4,7 +4,7 @@ use mathlib.Core.Path.{_≡_}
 use mathlib.Core.Bool.{Bool, true, false, _||_, _&&_}
 use mathlib.Core.List.{List, [], _∷_, _++_}
 use Prim.Native.Nat.{ℕ, suc, _+_, _-_, _*_, _≤_, _<_}
-use lib.Dec.{eqb}
+use lib.Dec.{eqb, leb}
 use lib.ListN.{length, take, drop, getD}
 
 infixr 5 if_then_else_
@@ -52,3 +52,10 @@ pub record Programmed (a : ℕ) (d before after : List ℕ) : Type 0 where
   pub same-size : length after ≡ length before
   pub new-values : (i : ℕ) → i < length d → getD after (a + i) 0 ≡ getD d i 0
   pub others-stay : (i : ℕ) → (i < a) ⊎ (a + length d ≤ i) → getD after i 0 ≡ getD before i 0
+
+-- the bytes d fit into the memory m from place a on; laid over it where they fit
+abbrev pub fits : ℕ → List ℕ → List ℕ → Bool
+fits a d m = leb (a + length d) (length m)
+
+unfoldable pub laid : ℕ → List ℕ → List ℕ → List ℕ
+laid a d m = if fits a d m then overlay a d m else m
