@@ -35,18 +35,18 @@ use Rattle.loader.specs.Commands.{stall, perform, obey, obeyForm, accept
 use Rattle.loader.specs.Requests.{mostData, requestOf, respond, upload, send, getStatus}
 use Rattle.loader.specs.Refusals.{refusal, replySize}
 use Rattle.loader.specs.Step.{step, ask, lastSent}
-use Rattle.loader.specs.BenchCases.{Ready, Unnamed, download, askStatus, askUpload, Line, line, taken, notBlank, Answers, programHead, transfer, Programs, checkAll, Finds, Erases, WritesHsb, BenchCases}
+use Rattle.loader.specs.BenchCases.{Ready, Unnamed, download, askStatus, askUpload, Moved, line, taken, Answers, programHead, transfer, Programs, checkAll, Finds, Erases, WritesHsb, BenchCases}
 use Rattle.loader.proofs.Ready.{commanded, statusOf}
 
 -- a case that names the first bytes of the data and the answer
-answers-by : {l : Level} {head : List ℕ} {least most : ℕ} {o : Line} → T (ltb 0 least) → T (leb most mostData)
-    → ((b : Board) → Ready l b → (rest : List ℕ) → least ≤ length (head ++ rest) → length (head ++ rest) ≤ most → line (obeyForm b (form (head ++ rest)) (head ++ rest)) ≡ o)
+answers-by : {l : Level} {head : List ℕ} {least most : ℕ} {o : Moved} → T (ltb 0 least) → T (leb most mostData)
+    → ((b : Board) → Ready l b → (rest : List ℕ) → least ≤ length (head ++ rest) → length (head ++ rest) ≤ most → obeyForm b (form (head ++ rest)) (head ++ rest) ≡ reply (b .config) (o .outcome) [] (o .session))
     → Answers l head least most o
 answers-by {l} {head} {least} {most} {o} p q f = record {
   answers = λ b r u rest h k.
       let w : 0 < least = ltb→lt 0 least p in
       let z : most ≤ mostData = leb→le most mostData q in
-      ap line (commanded r u (head ++ rest) (omega arith) (omega arith)) ∙ f b r rest h k;
+      commanded r u (head ++ rest) (omega arith) (omega arith) ∙ f b r rest h k;
 }
 
 -- ---- program transfers (cases 2, 6 and 7)
@@ -149,6 +149,7 @@ case-11 = record {
           p1cf = ap (λ x. x .config .p1cf) e;
           p3cf = ap (λ x. x .config .p3cf) e;
           p4cf = ap (λ x. x .config .p4cf) e;
+          ssb = ap (λ x. x .config .ssb) e;
           eb = ap (λ x. x .config .eb) e;
           hsb = ap (λ x. x .config .hsb) e;
         },

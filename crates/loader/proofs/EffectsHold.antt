@@ -2,29 +2,39 @@
 -- Assumes nothing.
 use mathlib.Core.Path.{_≡_, refl, sym, ap, _∙_, subst}
 use mathlib.Core.Bool.{Bool, true, false}
-use mathlib.Core.List.{List, []}
+use mathlib.Core.List.{List, [], _∷_}
 use mathlib.Core.Option.{Option, none, some}
 use Prim.Native.Nat.{ℕ, _≤_}
 use native.Mathlib.Omega.{arith}
+use lib.Dec.{eqb, ltb}
 use lib.ListN.{length}
+use borrow.Author.Tests.{ne-eqb, le-ltb}
 use Rattle.board.specs.Memory.{flashPages}
 use Rattle.board.specs.Pages.{programStores}
+use Rattle.words.specs.Words.{if_then_else_, among}
 use Rattle.board.specs.Blank.{usedIn}
+use Rattle.board.specs.Level.{level}
 use Rattle.board.specs.declared.address.Range.{Range}
 use Rattle.board.specs.declared.address.Range.the-variants.{Flash, Eeprom}
 use Rattle.board.specs.declared.address.Block.the-variants.{Low, Middle, High}
 use Rattle.words.proofs.WordsLaws.{overlay-programmed}
 use Rattle.board.proofs.PagesLaws.{programStores-programmed, blockStores-programmed, storeAll-chipStores, length-programStores, length-blockStores, length-chipStores, pagesMet-le}
-use Rattle.command.specs.Transfer.{bodyOf}
+use Rattle.command.specs.Form.{form}
+use Rattle.command.specs.Address.{badAddress}
+use Rattle.command.specs.Transfer.{bodyOf, badLength}
+use Rattle.command.specs.Reader.{partsOf, readForm, readCommand}
+use Rattle.command.specs.declared.reader.Reading.the-variants.{Taken, Stalls, BadAddress}
 use Rattle.command.specs.declared.command.Command.{Command}
 use Rattle.command.specs.declared.command.Command.the-variants.{Program, Read, BlankCheck, EraseBlock, EraseChip, WriteByte, WriteHsb, StartReset, StartAt, ReadVersion, ReadByte, ReadHsb}
 use Rattle.command.proofs.AddressLaws.{Good, badRange-good}
 use Rattle.command.proofs.TransferLaws.{length-bodyOf}
 use Rattle.loader.specs.Result.{Board, Result, reply, Outcome, Refused}
-use Rattle.loader.specs.Commands.{perform, accept, blankEffect}
+use Rattle.loader.specs.Levels.{levelStatus}
+use Rattle.loader.specs.Commands.{stall, setStatus, perform, accept, blankEffect, forbidden, obey, obeyForm}
+use Rattle.loader.specs.Requests.{requestOf, Request, Dnload, Upload, GetStatus, GetState, ClrStatus, Abort, Other, mostData, respond, dnload, endDownload, upload}
 use Rattle.loader.specs.Refusals.{refusal}
-use Rattle.loader.specs.Step.{ask}
-use Rattle.loader.specs.Effects.{Leaves, Effects, MovesNothing, RefusalsMoveNothing}
+use Rattle.loader.specs.Step.{Ask, PowerUp, ask, powerUp, step}
+use Rattle.loader.specs.Effects.{Leaves, Effects, MovesNothing, RefusalsMoveNothing, RefusalsGiven, AcceptedRightly, AcceptedOnly, Commands, AcceptedAlways, NotAcceptedSaid, StatusStays}
 use Rattle.loader.proofs.Shape.{Passed, Shape, refused, still, did, shape, isRefused}
 
 -- an answer that changes neither memory nor configuration
@@ -82,7 +92,9 @@ leaves b k d r (still o bs s z q) = leaves-still b d r (ap (λ x. x .stored) q) 
 leaves b k d r (did c p q) = subst (λ x. Leaves b d x) (sym q) (leaves-did b c d p)
 
 pub effects : Effects
-effects b setup d n = leaves b (refusal b setup d n) d (ask b setup d n) (shape b setup d n)
+unfolding step
+effects b (Ask setup d n) = leaves b (refusal b setup d n) d (ask b setup d n) (shape b setup d n)
+effects b PowerUp = leaves-still b [] (powerUp b) refl refl refl refl
 
 -- ---- refusals
 
@@ -99,3 +111,126 @@ moves-nothing b number k d r (did c p q) e =
 
 pub refusals-move-nothing : RefusalsMoveNothing
 refusals-move-nothing b setup d n k = moves-nothing b (refusal b setup d n) k d (ask b setup d n) (shape b setup d n)
+
+pub refusals-given : RefusalsGiven
+unfolding ask
+refusals-given b setup d n h = rw (ne-eqb (refusal b setup d n) 0 h)
+
+-- ---- what is accepted
+
+accepted-rightly : (b : Board) (number : ℕ) (d : List ℕ) (k : Command) (r : Result) → Shape b number d r → r .accepted ≡ some k → AcceptedRightly b d k r
+unfolding readCommand
+accepted-rightly b number d k r (refused q) e =
+    let z : none ≡ some k = sym (ap (λ x. x .accepted) q) ∙ e in
+    absurd (let n : _≡_ {A = ℕ} 0 1 = cc in omega arith)
+accepted-rightly b number d k r (still o bs s t q) e =
+    let z : none ≡ some k = sym (ap (λ x. x .accepted) q) ∙ e in
+    absurd (let n : _≡_ {A = ℕ} 0 1 = cc in omega arith)
+accepted-rightly b number d k r (did c p q) e =
+    let z : some c ≡ some k = sym (ap (λ x. x .accepted) q) ∙ e in
+    let same : c ≡ k = cc in
+    subst (λ y. AcceptedRightly b d y r) same (record {
+      read = rw (p .formed, p .address-right, p .length-right);
+      allowed = p .level-right;
+      done = ap (λ x. x .outcome) q;
+      in-state-3 = ap (λ x. x .session .state) q;
+    })
+
+pub accepted-only : AcceptedOnly
+accepted-only b setup d n k = accepted-rightly b (refusal b setup d n) d k (ask b setup d n) (shape b setup d n)
+
+-- a command's answer, when DNLOAD gives one
+commands-answer : (b : Board) (setup d : List ℕ) (n : ℕ) → Commands b setup d n → ask b setup d n ≡ obeyForm b (form d) d
+unfolding ask respond dnload
+commands-answer b setup d n c =
+    let m : ℕ = c .bytes in
+    rw (c .not-refused, c .dnload, le-ltb mostData m (c .not-too-many), ne-eqb m 0 (omega (arith, c .some-bytes)), c .in-state)
+
+-- what the reader reads passed its tests
+reader-passed : (o : Option Command) (d : List ℕ) (k : Command) → readForm o d ≡ Taken k (partsOf k d)
+    → (o ≡ some k) × (badAddress k ≡ false) × (badLength k d ≡ false)
+reader-passed none d k q = absurd (let n : _≡_ {A = ℕ} 0 1 = cc in omega arith)
+reader-passed (some c) d k q = go (badAddress c) (badLength c d) refl refl q
+  where
+    go : (t u : Bool) → badAddress c ≡ t → badLength c d ≡ u → (if t then BadAddress else if u then Stalls else Taken c (partsOf c d)) ≡ Taken k (partsOf k d)
+        → (some c ≡ some k) × (badAddress k ≡ false) × (badLength k d ≡ false)
+    go true u a l e = absurd (let n : _≡_ {A = ℕ} 0 1 = cc in omega arith)
+    go false true a l e = absurd (let n : _≡_ {A = ℕ} 0 1 = cc in omega arith)
+    go false false a l e =
+        let same : c ≡ k = cc in
+        (ap some same, subst (λ y. badAddress y ≡ false) same a, subst (λ y. badLength y d ≡ false) same l)
+
+pub accepted-always : AcceptedAlways
+unfolding obey readCommand
+accepted-always b setup d n k c q a =
+    let p = reader-passed (form d) d k q in
+    ap (λ x. x .accepted) (commands-answer b setup d n c ∙ ap (λ o. obeyForm b o d) (p .0)) ∙ rw (a, p .1, p .2)
+
+-- a command is accepted, or state 10 is left
+said : (b : Board) (d : List ℕ) (o : Option Command) → obeyForm b o d .accepted ≡ none → obeyForm b o d .session .state ≡ 10
+unfolding stall obey
+said b d none q = refl
+said b d (some k) q = go (forbidden b k) (badAddress k) (badLength k d) q
+  where
+    answer : Bool → Bool → Bool → Result
+    answer t u w =
+        if t then setStatus b (levelStatus k (level (b .config))) else
+        if u then setStatus b 0x08 else
+        if w then stall b else
+        accept k (perform b k d)
+
+    go : (t u w : Bool) → answer t u w .accepted ≡ none → answer t u w .session .state ≡ 10
+    go true u w q = refl
+    go false true w q = refl
+    go false false true q = refl
+    go false false false q = absurd (let n : _≡_ {A = ℕ} 0 1 = cc in omega arith)
+
+pub not-accepted-said : NotAcceptedSaid
+not-accepted-said b setup d n c q =
+    let e = commands-answer b setup d n c in
+    ap (λ x. x .session .state) e ∙ said b d (form d) (sym (ap (λ x. x .accepted) e) ∙ q)
+
+-- ---- an error status
+
+module _ (b : Board) (ten : b .session .state ≡ 10) where
+  abbrev Kept : Result → Type 0
+  Kept r = (r .session .state ≡ 10) × (r .session .status ≡ b .session .status)
+
+  kept-stall : Kept (stall b)
+  unfolding stall
+  kept-stall = (refl, rw ten)
+
+  -- whatever two tests say
+  kept-both : (t u : Bool) (x : Result) → Kept x → Kept (if t then x else if u then x else x)
+  kept-both true u x h = h
+  kept-both false true x h = h
+  kept-both false false x h = h
+
+  kept-endDownload : endDownload b ≡ stall b
+  unfolding endDownload
+  kept-endDownload = rw ten
+
+  kept-respond : (q : Request) (d : List ℕ) → (q ≡ ClrStatus → ⊥) → Kept (respond b q d)
+  unfolding respond dnload upload
+  kept-respond (Dnload n) d h =
+      let t : among (b .session .state) (2 ∷ 5 ∷ []) ≡ false = rw ten in
+      rw (kept-endDownload, t) (kept-both (ltb mostData n) (eqb n 0) (stall b) kept-stall)
+  kept-respond (Upload n) d h =
+      let t : among (b .session .state) (5 ∷ 9 ∷ []) ≡ false = rw ten in
+      rw t kept-stall
+  kept-respond GetStatus d h = (rw ten, refl)
+  kept-respond GetState d h = (ten, refl)
+  kept-respond ClrStatus d h = absurd (h refl)
+  kept-respond Abort d h =
+      let t : among (b .session .state) (2 ∷ 3 ∷ 5 ∷ 6 ∷ 9 ∷ []) ≡ false = rw ten in
+      rw t kept-stall
+  kept-respond Other d h = kept-stall
+
+  kept-ask : (t : Bool) (x y : Result) → Kept x → Kept y → Kept (if t then x else y)
+  kept-ask true x y h k = h
+  kept-ask false x y h k = k
+
+pub status-stays : StatusStays
+unfolding ask
+status-stays b setup d n ten h =
+    kept-ask b ten (eqb (refusal b setup d n) 0) (respond b (requestOf setup) d) _ (kept-respond b ten (requestOf setup) d h) (ten, refl)

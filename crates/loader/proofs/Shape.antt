@@ -24,8 +24,9 @@ use Rattle.loader.specs.Requests.{Request, Dnload, Upload, GetStatus, Ge
 use Rattle.loader.specs.Refusals.{refusal}
 use Rattle.loader.specs.Step.{ask}
 
--- a command that passed the sizes, the level, the address and the length
+-- a command that passed the sizes, the form, the level, the address and the length
 pub record Passed (b : Board) (k : Command) (d : List ℕ) : Type 0 where
+  pub formed : form d ≡ some k
   pub flash-size : length (b .flash) ≡ flashSize
   pub eeprom-size : length (b .eeprom) ≡ eepromSize
   pub level-right : levelStatus k (level (b .config)) ≡ 0x00
@@ -62,17 +63,17 @@ module _ (b : Board) (number : ℕ) (d : List ℕ) (hf : length (b .flash) ≡ f
   unfolding stall
   of-stall = still _ _ _ refl refl
 
-  of-obey : (k : Command) → Shape b number d (obey b k d)
+  of-obey : (k : Command) → form d ≡ some k → Shape b number d (obey b k d)
   unfolding obey
-  of-obey k =
+  of-obey k f =
       pick (forbidden b k) (λ x. still _ _ _ refl refl) (λ x.
       pick (badAddress k) (λ y. still _ _ _ refl refl) (λ y.
       pick (badLength k d) (λ z. of-stall) (λ z.
-      did k (record { flash-size = hf; eeprom-size = he; level-right = eqb-true _ 0x00 (not-false _ x); address-right = y; length-right = z }) refl)))
+      did k (record { formed = f; flash-size = hf; eeprom-size = he; level-right = eqb-true _ 0x00 (not-false _ x); address-right = y; length-right = z }) refl)))
 
-  of-form : (o : Option Command) → Shape b number d (obeyForm b o d)
-  of-form none = of-stall
-  of-form (some k) = of-obey k
+  of-form : (o : Option Command) → form d ≡ o → Shape b number d (obeyForm b o d)
+  of-form none f = of-stall
+  of-form (some k) f = of-obey k f
 
   of-endDownload : Shape b number d (endDownload b)
   unfolding endDownload
@@ -86,7 +87,7 @@ module _ (b : Board) (number : ℕ) (d : List ℕ) (hf : length (b .flash) ≡ f
   of-respond (Dnload n) =
       pick (ltb mostData n) (λ x. of-stall) (λ x.
       pick (eqb n 0) (λ y. of-endDownload) (λ y.
-      pick (among (b .session .state) (2 ∷ 5 ∷ [])) (λ z. of-form (form d)) (λ z. of-stall)))
+      pick (among (b .session .state) (2 ∷ 5 ∷ [])) (λ z. of-form (form d) refl) (λ z. of-stall)))
   of-respond (Upload n) =
       pick (among (b .session .state) (5 ∷ 9 ∷ []) && ltb 0 n && sendable (b .session .pending) (level (b .config)))
       (λ x. still _ _ _ refl refl) (λ x. of-stall)

@@ -6,13 +6,14 @@ use mathlib.Core.List.{List, [], _∷_, _++_}
 use Prim.Native.Nat.{ℕ, _/_, _%_, _≤_, _<_}
 use lib.ListN.{length, getD}
 use Rattle.words.specs.Words.{count, Programmed}
-use Rattle.board.specs.Memory.{flashSize, eepromSize, blankFlash}
+use Rattle.board.specs.Memory.{flashSize, eepromSize, flashAddress, blankFlash}
 use Rattle.board.specs.Level.{level}
 use Rattle.board.specs.declared.config.Config.{Config}
 use Rattle.board.specs.declared.level.Level.{Level}
 use Rattle.board.specs.declared.level.Level.the-variants.{L0, L1, L2}
 use Rattle.command.specs.Transfer.{padding}
-use Rattle.loader.specs.Result.{Board, Result, next, pages, Outcome, Done, Stall}
+use Rattle.loader.specs.Session.{Session, session, Nothing, BlankReport}
+use Rattle.loader.specs.Result.{Board, Result, reply, next, pages, Outcome, Done, Stall}
 use Rattle.loader.specs.Refusals.{badSession, replySize}
 use Rattle.loader.specs.Step.{Event, Ask, step, lastSent}
 
@@ -41,35 +42,40 @@ askStatus u = Ask (0xA1 ∷ 3 ∷ 0 ∷ 0 ∷ 0 ∷ 0 ∷ 6 ∷ 0 ∷ []) [] (u 
 abbrev pub askUpload : Unnamed → ℕ → Event
 askUpload u n = Ask (0xA1 ∷ 2 ∷ u .low ∷ u .high ∷ 0 ∷ 0 ∷ n % 256 ∷ n / 256 ∷ []) [] (u .room)
 
--- what a bench line shows of an answer: outcome, state, status, pages
+-- an answer that sends nothing and moves nothing but the session: an error status; a stall
+pub record Moved : Type 0 where
+  pub outcome : Outcome
+  pub session : Session
+
+abbrev pub failed : ℕ → Moved
+failed k = record { outcome = Done; session = session 10 k Nothing }
+
+abbrev pub stalled : Moved
+stalled = record { outcome = Stall; session = session 10 0x0F Nothing }
+
+-- what is told of a command that was taken: outcome, bytes sent, session and page count
 pub record Line : Type 0 where
   pub outcome : Outcome
-  pub state : ℕ
-  pub status : ℕ
+  pub sent : List ℕ
+  pub session : Session
   pub pages : ℕ
 
 abbrev pub line : Result → Line
-line r = record { outcome = r .outcome; state = r .session .state; status = r .session .status; pages = pages r }
+line r = record { outcome = r .outcome; sent = r .sent; session = r .session; pages = pages r }
 
--- taken with so many pages; an error status; a stall; a blank check that met a byte
+-- taken with so many pages; a blank check that met a byte at x
 abbrev pub taken : ℕ → Line
-taken n = record { outcome = Done; state = 3; status = 0x00; pages = n }
+taken n = record { outcome = Done; sent = []; session = session 3 0x00 Nothing; pages = n }
 
-abbrev pub failed : ℕ → Line
-failed k = record { outcome = Done; state = 10; status = k; pages = 0 }
-
-abbrev pub stalled : Line
-stalled = record { outcome = Stall; state = 10; status = 0x0F; pages = 0 }
-
-abbrev pub notBlank : Line
-notBlank = record { outcome = Done; state = 3; status = 0x05; pages = 0 }
+abbrev pub notBlank : ℕ → Line
+notBlank x = record { outcome = Done; sent = []; session = session 3 0x05 (BlankReport (flashAddress x)); pages = 0 }
 
 -- ---- what each kind of case says
 
--- a board at level l, sent data that begins with `head` and has `least` to `most` bytes, answers with the line o
-pub record Answers (l : Level) (head : List ℕ) (least most : ℕ) (o : Line) : Type 0 where
+-- a board at level l, sent data that begins with `head` and has `least` to `most` bytes, answers o; memories and configuration stay
+pub record Answers (l : Level) (head : List ℕ) (least most : ℕ) (o : Moved) : Type 0 where
   pub answers : (b : Board) → Ready l b → (u : Unnamed) (rest : List ℕ) → least ≤ length (head ++ rest) → length (head ++ rest) ≤ most
-      → line (step b (download u (head ++ rest))) ≡ o
+      → step b (download u (head ++ rest)) ≡ reply (b .config) (o .outcome) [] (o .session)
 
 -- the first six bytes of a program transfer to flash
 abbrev pub programHead : ℕ → ℕ → List ℕ
@@ -98,15 +104,16 @@ checkAll u = download u (0x03 ∷ 0x01 ∷ 0x00 ∷ 0x00 ∷ 0x7F ∷ 0xFF ∷ [
 -- a board at level l, first byte not FFh at x: 05h, then after GETSTATUS the upload o
 pub record Finds (l : Level) (x : ℕ) (o : List ℕ) : Type 0 where
   pub finds : (b : Board) → Ready l b → FirstUsedAt (b .flash) x → (u : Unnamed)
-      → (line (step b (checkAll u)) ≡ notBlank) × (lastSent b (checkAll u ∷ askStatus u ∷ askUpload u 2 ∷ []) ≡ o)
+      → (line (step b (checkAll u)) ≡ notBlank x) × (lastSent b (checkAll u ∷ askStatus u ∷ askUpload u 2 ∷ []) ≡ o)
 
--- "BSB FFh, SBV FCh", SSB as the level says, "EEPROM and the other bytes stay"
+-- "BSB FFh, SBV FCh, SSB FFh; .. the other bytes stay"
 pub record ErasedConfig (before after : Config) : Type 0 where
   pub bsb : after .bsb ≡ 0xFF
   pub sbv : after .sbv ≡ 0xFC
   pub p1cf : after .p1cf ≡ before .p1cf
   pub p3cf : after .p3cf ≡ before .p3cf
   pub p4cf : after .p4cf ≡ before .p4cf
+  pub ssb : after .ssb ≡ 0xFF
   pub eb : after .eb ≡ before .eb
   pub hsb : after .hsb ≡ before .hsb
 
@@ -127,7 +134,7 @@ pub record WritesHsb (l : Level) (v old new : ℕ) : Type 0 where
 
 pub data Case : Type 0 where
   Pad : ℕ → ℕ → Case
-  Answer : Level → List ℕ → ℕ → ℕ → Line → Case
+  Answer : Level → List ℕ → ℕ → ℕ → Moved → Case
   Program : ℕ → ℕ → ℕ → ℕ → Case
   Find : Level → ℕ → List ℕ → Case
   Erase : Level → ℕ → Level → Case

@@ -1,22 +1,28 @@
 -- What a request leaves on the board, said by the command that was accepted: for every board and every request.
 -- The statements are proved in proofs/EffectsHold.antt.
 use mathlib.Core.Path.{_≡_}
-use mathlib.Core.List.{List, []}
+use mathlib.Core.Bool.{true}
+use mathlib.Core.List.{List, [], _∷_}
 use mathlib.Core.Option.{Option, none, some}
-use Prim.Native.Nat.{ℕ, _≤_}
-use Rattle.words.specs.Words.{Programmed}
+use Prim.Native.Nat.{ℕ, _≤_, _<_}
+use Rattle.words.specs.Words.{among, Programmed}
 use Rattle.board.specs.Memory.{blankFlash}
 use Rattle.board.specs.Pages.{pagesMet, blockStart, blockFF}
 use Rattle.board.specs.Config.{withByte, withHsb, erasedConfig}
+use Rattle.board.specs.Level.{level}
 use Rattle.board.specs.declared.address.Range.the-variants.{Flash, Eeprom}
 use Rattle.board.specs.declared.address.Block.the-variants.{Low, Middle, High}
 use Rattle.board.specs.declared.config.Config.{Config}
 use Rattle.command.specs.Transfer.{bodyOf}
+use Rattle.command.specs.Reader.{partsOf, readCommand}
+use Rattle.command.specs.declared.reader.Reading.the-variants.{Taken}
 use Rattle.command.specs.declared.command.Command.{Command}
 use Rattle.command.specs.declared.command.Command.the-variants.{Program, Read, BlankCheck, EraseBlock, EraseChip, WriteByte, WriteHsb, StartReset, StartAt, ReadVersion, ReadByte, ReadHsb}
-use Rattle.loader.specs.Result.{Board, Result, next, pages, Refused}
+use Rattle.loader.specs.Levels.{levelStatus}
+use Rattle.loader.specs.Result.{Board, Result, next, pages, Done, Refused}
+use Rattle.loader.specs.Requests.{requestOf, Dnload, ClrStatus, mostData}
 use Rattle.loader.specs.Refusals.{refusal}
-use Rattle.loader.specs.Step.{ask}
+use Rattle.loader.specs.Step.{Event, Ask, PowerUp, ask, step}
 
 -- "for programming flash, the pages that the range meets; 64, 64, 128, 256 for the erases; else 0. .. at most 9 for a program
 -- transfer."
@@ -95,11 +101,18 @@ pub record Leaves (b : Board) (d : List ℕ) (r : Result) : Type 0 where
   pub config : r .config ≡ configAfter (r .accepted) (b .config)
   pub page-count : PagesOf (r .accepted) (pages r)
 
+-- the data that an event sends
+abbrev pub eventData : Event → List ℕ
+eventData (Ask setup d n) = d
+eventData PowerUp = []
+
 abbrev pub Effects : Type 0
-Effects = (b : Board) (setup d : List ℕ) (n : ℕ) → Leaves b d (ask b setup d n)
+Effects = (b : Board) (v : Event) → Leaves b (eventData v) (step b v)
+
+-- ---- refusals
 
 -- "A refusal gives its number, length 0 and 0 pages; session, memories, configuration and reply stay."
-pub record MovesNothing (b : Board) (k : ℕ) (number : ℕ) (r : Result) : Type 0 where
+pub record MovesNothing (b : Board) (k number : ℕ) (r : Result) : Type 0 where
   pub its-number : number ≡ k
   pub nothing-sent : r .sent ≡ []
   pub no-pages : pages r ≡ 0
@@ -108,3 +121,48 @@ pub record MovesNothing (b : Board) (k : ℕ) (number : ℕ) (r : Result) : Type
 abbrev pub RefusalsMoveNothing : Type 0
 RefusalsMoveNothing = (b : Board) (setup d : List ℕ) (n k : ℕ)
     → ask b setup d n .outcome ≡ Refused k → MovesNothing b k (refusal b setup d n) (ask b setup d n)
+
+-- "the first that applies is given"
+abbrev pub RefusalsGiven : Type 0
+RefusalsGiven = (b : Board) (setup d : List ℕ) (n : ℕ)
+    → (refusal b setup d n ≡ 0 → ⊥) → ask b setup d n .outcome ≡ Refused (refusal b setup d n)
+
+-- ---- what is accepted
+
+-- an accepted command is what the reader reads, the level allows it, and the answer is done with state 3
+pub record AcceptedRightly (b : Board) (d : List ℕ) (k : Command) (r : Result) : Type 0 where
+  pub read : readCommand d ≡ Taken k (partsOf k d)
+  pub allowed : levelStatus k (level (b .config)) ≡ 0x00
+  pub done : r .outcome ≡ Done
+  pub in-state-3 : r .session .state ≡ 3
+
+abbrev pub AcceptedOnly : Type 0
+AcceptedOnly = (b : Board) (setup d : List ℕ) (n : ℕ) (k : Command)
+    → ask b setup d n .accepted ≡ some k → AcceptedRightly b d k (ask b setup d n)
+
+-- DNLOAD of 1 to 1,103 bytes in state 2 or 5, not refused
+pub record Commands (b : Board) (setup d : List ℕ) (n : ℕ) : Type 0 where
+  pub bytes : ℕ
+  pub not-refused : refusal b setup d n ≡ 0
+  pub dnload : requestOf setup ≡ Dnload bytes
+  pub some-bytes : 0 < bytes
+  pub not-too-many : bytes ≤ mostData
+  pub in-state : among (b .session .state) (2 ∷ 5 ∷ []) ≡ true
+
+abbrev pub AcceptedAlways : Type 0
+AcceptedAlways = (b : Board) (setup d : List ℕ) (n : ℕ) (k : Command) → Commands b setup d n
+    → readCommand d ≡ Taken k (partsOf k d) → levelStatus k (level (b .config)) ≡ 0x00 → ask b setup d n .accepted ≡ some k
+
+-- "and refused the write, and only a status said so": a command that was not accepted leaves state 10, and what was accepted is
+-- all that moves a memory or the configuration
+abbrev pub NotAcceptedSaid : Type 0
+NotAcceptedSaid = (b : Board) (setup d : List ℕ) (n : ℕ) → Commands b setup d n
+    → ask b setup d n .accepted ≡ none → ask b setup d n .session .state ≡ 10
+
+-- ---- an error status
+
+-- "Clearing a refused write's status at a request other than CLRSTATUS" is an error: in state 10 every other request keeps the
+-- state and the status
+abbrev pub StatusStays : Type 0
+StatusStays = (b : Board) (setup d : List ℕ) (n : ℕ) → b .session .state ≡ 10 → (requestOf setup ≡ ClrStatus → ⊥)
+    → (ask b setup d n .session .state ≡ 10) × (ask b setup d n .session .status ≡ b .session .status)
