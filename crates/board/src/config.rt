@@ -1,6 +1,6 @@
 // The configuration bytes.
 ghost use mathlib.Core.Path.{_≡_};
-ghost use Rattle.board.specs.Config.{deliveredConfig, byteRead, withByte, withHsb, erasedConfig};
+ghost use Rattle.board.specs.Config.{deliveredConfig, readable, writable, byteRead, withByte, withHsb, erasedConfig};
 
 // The seven bytes of index 00h to 06h in their order, and HSB.
 pub struct Config {
@@ -27,6 +27,29 @@ pub fn delivered() -> Config
         ssb: 0xFF,
         eb: 0xFF,
         hsb: 0xBB,
+    }
+}
+
+// Whether an index has a byte that can be written: 00h to 06h.
+pub fn is_writable(index: u8) -> bool
+    ensures { λ r. ⌜ r ≡ writable index ⌝ }
+{
+    index <= 0x06
+}
+
+// Whether an index has a byte that can be read: 00h to 06h, or one of the fixed bytes.
+pub fn is_readable(index: u8) -> bool
+    ensures { λ r. ⌜ r ≡ readable index ⌝ }
+{
+    if index <= 0x06 {
+        return true;
+    }
+    match index {
+        0x30 => true,
+        0x31 => true,
+        0x60 => true,
+        0x61 => true,
+        _ => false,
     }
 }
 

@@ -21,6 +21,8 @@ pub use config::ByteRead;
 pub use config::Config;
 pub use config::config_after_erase;
 pub use config::delivered;
+pub use config::is_readable;
+pub use config::is_writable;
 pub use config::read_byte;
 pub use config::write_byte;
 pub use config::write_hsb;

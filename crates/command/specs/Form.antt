@@ -1,27 +1,22 @@
 -- The paper's "Commands in DNLOAD data": which command the data is, by its form. Assumes nothing: these are definitions.
-use mathlib.Core.Bool.{Bool, _&&_}
-use mathlib.Core.List.{List, [], _∷_}
+use mathlib.Core.Bool.{Bool}
+use mathlib.Core.List.{List}
 use mathlib.Core.Option.{Option, none, some}
 use Prim.Native.Nat.{ℕ}
 use lib.Dec.{eqb, leb}
 use lib.ListN.{length}
-use Rattle.words.specs.Words.{if_then_else_, begins, byteAt, highFirst}
+use Rattle.words.specs.Words.{if_then_else_, byteAt, highFirst}
 use Rattle.board.specs.Memory.{flashAddress, eepromAddress}
 use Rattle.board.specs.declared.address.FlashAddress.{FlashAddress}
 use Rattle.board.specs.declared.address.EepromAddress.{EepromAddress}
+use Rattle.board.specs.declared.address.Range.{Range}
 use Rattle.board.specs.declared.address.Range.the-variants.{Flash, Eeprom}
 use Rattle.board.specs.declared.address.Block.the-variants.{Low, Middle, High}
 use Rattle.board.specs.Config.{readable, writable}
+pub use Rattle.command.specs.declared.form.Form.{Form}
+pub use Rattle.command.specs.declared.form.Form.the-variants.{Is, Unlisted}
 pub use Rattle.command.specs.declared.command.Command.{Command}
 pub use Rattle.command.specs.declared.command.Command.the-variants.{Program, Read, BlankCheck, EraseBlock, EraseChip, WriteByte, WriteHsb, StartReset, StartAt, ReadVersion, ReadByte, ReadHsb}
-
--- "Lengths are exact": the data is n bytes and begins with these
-abbrev pub exact : ℕ → List ℕ → List ℕ → Bool
-exact n xs d = eqb (length d) n && begins xs d
-
--- "Only its first six bytes count as form": the data is 6 bytes or more and begins with these
-abbrev pub sixOrMore : List ℕ → List ℕ → Bool
-sixOrMore xs d = leb 6 (length d) && begins xs d
 
 -- "Addresses .. are high byte first": the address that stands at i
 abbrev pub flashAt : List ℕ → ℕ → FlashAddress
@@ -30,23 +25,62 @@ flashAt d i = flashAddress (highFirst d i)
 abbrev pub eepromAt : List ℕ → ℕ → EepromAddress
 eepromAt d i = eepromAddress (highFirst d i)
 
--- the rows of the table in their order; "unlisted codes and lengths stall": none
-unfoldable pub form : List ℕ → Option Command
-form d =
-    if sixOrMore (0x01 ∷ 0x00 ∷ []) d then some (Program (Flash (flashAt d 2) (flashAt d 4))) else
-    if sixOrMore (0x01 ∷ 0x01 ∷ []) d then some (Program (Eeprom (eepromAt d 2) (eepromAt d 4))) else
-    if exact 6 (0x03 ∷ 0x00 ∷ []) d then some (Read (Flash (flashAt d 2) (flashAt d 4))) else
-    if exact 6 (0x03 ∷ 0x02 ∷ []) d then some (Read (Eeprom (eepromAt d 2) (eepromAt d 4))) else
-    if exact 6 (0x03 ∷ 0x01 ∷ []) d then some (BlankCheck (flashAt d 2) (flashAt d 4)) else
-    if exact 3 (0x04 ∷ 0x00 ∷ 0x00 ∷ []) d then some (EraseBlock Low) else
-    if exact 3 (0x04 ∷ 0x00 ∷ 0x20 ∷ []) d then some (EraseBlock Middle) else
-    if exact 3 (0x04 ∷ 0x00 ∷ 0x40 ∷ []) d then some (EraseBlock High) else
-    if exact 3 (0x04 ∷ 0x00 ∷ 0xFF ∷ []) d then some EraseChip else
-    if exact 4 (0x04 ∷ 0x01 ∷ []) d && writable (byteAt d 2) then some (WriteByte (byteAt d 2) (byteAt d 3)) else
-    if exact 4 (0x04 ∷ 0x02 ∷ 0x00 ∷ []) d then some (WriteHsb (byteAt d 3)) else
-    if exact 3 (0x04 ∷ 0x03 ∷ 0x00 ∷ []) d then some StartReset else
-    if exact 5 (0x04 ∷ 0x03 ∷ 0x01 ∷ []) d then some (StartAt (flashAt d 3)) else
-    if exact 3 (0x05 ∷ 0x00 ∷ 0x00 ∷ []) d then some ReadVersion else
-    if exact 3 (0x05 ∷ 0x01 ∷ []) d && readable (byteAt d 2) then some (ReadByte (byteAt d 2)) else
-    if exact 3 (0x05 ∷ 0x02 ∷ 0x00 ∷ []) d then some ReadHsb else
+-- "start, end" after the first two bytes
+abbrev pub flashRange : List ℕ → Range
+flashRange d = Flash (flashAt d 2) (flashAt d 4)
+
+abbrev pub eepromRange : List ℕ → Range
+eepromRange d = Eeprom (eepromAt d 2) (eepromAt d 4)
+
+-- "Lengths are exact": a command whose data is n bytes
+abbrev pub exactly : ℕ → List ℕ → Command → Option Command
+exactly n d k = if eqb (length d) n then some k else none
+
+-- "Only its first six bytes count as form": a command whose data is 6 bytes or more
+abbrev pub sixOrMore : List ℕ → Command → Option Command
+sixOrMore d k = if leb 6 (length d) then some k else none
+
+-- "04h, 00h, 00h / 20h / 40h / FFh": the third byte of an erase
+abbrev pub eraseForm : List ℕ → Option Command
+eraseForm d =
+    if eqb (byteAt d 2) 0x00 then exactly 3 d (EraseBlock Low) else
+    if eqb (byteAt d 2) 0x20 then exactly 3 d (EraseBlock Middle) else
+    if eqb (byteAt d 2) 0x40 then exactly 3 d (EraseBlock High) else
+    if eqb (byteAt d 2) 0xFF then exactly 3 d EraseChip else
     none
+
+-- "04h, 03h, 00h or 04h, 03h, 01h, address"
+abbrev pub startForm : List ℕ → Option Command
+startForm d =
+    if eqb (byteAt d 2) 0x00 then exactly 3 d StartReset else
+    if eqb (byteAt d 2) 0x01 then exactly 5 d (StartAt (flashAt d 3)) else
+    none
+
+-- a row whose third byte is of a kind
+abbrev pub third : Bool → Option Command → Option Command
+third right k = if right then k else none
+
+-- the rows of the table by their first two bytes, "01h, 00h" being 0100h; "unlisted codes and lengths stall": none
+abbrev pub row : ℕ → List ℕ → Option Command
+row code d =
+    if eqb code 0x0100 then sixOrMore d (Program (flashRange d)) else
+    if eqb code 0x0101 then sixOrMore d (Program (eepromRange d)) else
+    if eqb code 0x0300 then exactly 6 d (Read (flashRange d)) else
+    if eqb code 0x0302 then exactly 6 d (Read (eepromRange d)) else
+    if eqb code 0x0301 then exactly 6 d (BlankCheck (flashAt d 2) (flashAt d 4)) else
+    if eqb code 0x0400 then eraseForm d else
+    if eqb code 0x0401 then third (writable (byteAt d 2)) (exactly 4 d (WriteByte (byteAt d 2) (byteAt d 3))) else
+    if eqb code 0x0402 then third (eqb (byteAt d 2) 0x00) (exactly 4 d (WriteHsb (byteAt d 3))) else
+    if eqb code 0x0403 then startForm d else
+    if eqb code 0x0500 then third (eqb (byteAt d 2) 0x00) (exactly 3 d ReadVersion) else
+    if eqb code 0x0501 then third (readable (byteAt d 2)) (exactly 3 d (ReadByte (byteAt d 2))) else
+    if eqb code 0x0502 then third (eqb (byteAt d 2) 0x00) (exactly 3 d ReadHsb) else
+    none
+
+unfoldable pub form : List ℕ → Option Command
+form d = row (highFirst d 0) d
+
+-- the form as the code answers it
+abbrev pub formOf : Option Command → Form
+formOf none = Unlisted
+formOf (some k) = Is k

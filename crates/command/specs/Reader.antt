@@ -39,3 +39,7 @@ readForm (some k) d =
 
 unfoldable pub readCommand : List ℕ → Reading
 readCommand d = readForm (form d) d
+
+-- 08h, of the answer that has a status
+abbrev pub badAddressStatus : ℕ
+badAddressStatus = 0x08

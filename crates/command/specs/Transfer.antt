@@ -41,17 +41,20 @@ bodyOf r d = take (rangeCount r) (drop (bodyPlace r) d)
 abbrev pub suffixOf : Range → List ℕ → List ℕ
 suffixOf r d = drop (suffixPlace r) d
 
--- "and for program at last its whole length"
+-- "and for program at last its whole length", of data of n bytes
+abbrev pub wrongLength : Command → ℕ → Bool
+wrongLength (Program r) n = not (eqb n (transferLength r))
+wrongLength (Read r) n = false
+wrongLength (BlankCheck a e) n = false
+wrongLength (EraseBlock k) n = false
+wrongLength EraseChip n = false
+wrongLength (WriteByte i v) n = false
+wrongLength (WriteHsb v) n = false
+wrongLength StartReset n = false
+wrongLength (StartAt a) n = false
+wrongLength ReadVersion n = false
+wrongLength (ReadByte i) n = false
+wrongLength ReadHsb n = false
+
 abbrev pub badLength : Command → List ℕ → Bool
-badLength (Program r) d = not (eqb (length d) (transferLength r))
-badLength (Read r) d = false
-badLength (BlankCheck a e) d = false
-badLength (EraseBlock k) d = false
-badLength EraseChip d = false
-badLength (WriteByte i v) d = false
-badLength (WriteHsb v) d = false
-badLength StartReset d = false
-badLength (StartAt a) d = false
-badLength ReadVersion d = false
-badLength (ReadByte i) d = false
-badLength ReadHsb d = false
+badLength k d = wrongLength k (length d)

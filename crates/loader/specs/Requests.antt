@@ -4,7 +4,7 @@ use mathlib.Core.List.{List, [], _∷_}
 use Prim.Native.Nat.{ℕ, _+_, _/_, _%_}
 use lib.Dec.{eqb, ltb}
 use lib.ListN.{length, take}
-use Rattle.words.specs.Words.{if_then_else_, among, begins, lowFirst, part}
+use Rattle.words.specs.Words.{if_then_else_, among, byteAt, lowFirst, part}
 use Rattle.board.specs.Memory.{flashAddress, eepromAddress, rangeCount}
 use Rattle.board.specs.Level.{level}
 use Rattle.board.specs.declared.address.Range.{Range}
@@ -32,7 +32,7 @@ wLength setup = lowFirst setup 6
 
 -- bmRequestType and bRequest are these, and "wIndex is 0"
 abbrev pub asks : ℕ → ℕ → List ℕ → Bool
-asks type request setup = begins (type ∷ request ∷ []) setup && eqb (wIndex setup) 0
+asks type request setup = eqb (byteAt setup 0) type && eqb (byteAt setup 1) request && eqb (wIndex setup) 0
 
 -- and "wValue is 0 and wLength 6, 1, 0, 0"
 abbrev pub asksPlainly : ℕ → ℕ → ℕ → List ℕ → Bool

@@ -5,10 +5,11 @@ use mathlib.Core.Path.{_≡_, sym, ap, _∙_}
 use mathlib.Core.List.{List, [], _++_, append-assoc, append-nil}
 use Prim.Native.Nat.{ℕ, suc, _+_, _-_, _≤_, _<_}
 use native.Mathlib.Nat.{add-assoc, add-zero, zero-add}
+use native.Mathlib.Numerals.{add-one}
 use native.Mathlib.Omega.{arith}
 use lib.ListN.{length, take, drop, getD, length-append, length-drop, take-append-drop, drop-of-length-le, List·getD-append}
 use lib.Seq.{length-take-le, take-all, take-at, take-take, take-add, getD-append-add, getD-take, getD-drop, drop-at, drop-drop, drop-append-le}
-use Rattle.words.specs.Words.{count, part, overlay, Programmed}
+use Rattle.words.specs.Words.{byteAt, count, part, overlay, Programmed}
 
 -- past a front of length k, put before what a list holds from k on, stands the list's own end
 pub drop-past : (x m : List ℕ) (k j : ℕ) → length x ≡ k → k ≤ j → drop j (x ++ drop k m) ≡ drop j m
@@ -99,3 +100,7 @@ overlay-front d m = rw (zero-add (length d))
 -- as many bytes as the memory has
 pub overlay-whole : (d m : List ℕ) → length d ≡ length m → overlay 0 d m ≡ d
 overlay-whole d m h = overlay-front d m ∙ rw (drop-of-length-le m {i = length d} (omega arith)) (append-nil d)
+
+-- a number that is made of the bytes at a place and at the next
+pub pair-at : (f : ℕ → ℕ → ℕ) (d : List ℕ) (i r x y : ℕ) → r ≡ f x y → x ≡ byteAt d i → y ≡ byteAt d (i + 1) → r ≡ f (byteAt d i) (byteAt d (suc i))
+pair-at f d i r x y q u v = q ∙ rw (u, v, add-one i)

@@ -5,7 +5,10 @@ mod memory;
 mod word;
 
 pub use memory::lay;
+pub use word::byte_at;
+pub use word::high_at;
 pub use word::high_first;
 pub use word::least;
+pub use word::low_at;
 pub use word::low_first;
 pub use word::wide;

@@ -1,0 +1,112 @@
+-- `command::form::form_of` meets its contract: each arm is a row of the table.
+-- Assumes nothing.
+use borrow.Author.Tests.{ne-eqb}
+use mathlib.Core.Path.{_≡_, sym, ap, _∙_}
+use mathlib.Core.List.{List}
+use Prim.Native.Nat.{ℕ}
+use Rattle.words.specs.Words.{highFirst}
+use Rattle.command.specs.Form.{Form, form, formOf, row}
+use borrow.Author.Needs.{needs}
+use Rattle.command.proofs.form.form_of.Statement.{statement}
+use Rattle.command.proofs.form.form_of.Tie as tie
+
+by-row : (d : List ℕ) (n : ℕ) {code : ℕ} (r : Form) → code ≡ highFirst d 0 → code ≡ n → r ≡ formOf (row n d) → r ≡ formOf (form d)
+unfolding form
+by-row d n r e q p = p ∙ ap (λ x. formOf (row x d)) (sym q ∙ e)
+
+high-at-requires : tie.Need-high-at-requires
+high-at-requires c κs = search needs
+
+flash-range-requires : tie.Need-flash-range-requires
+flash-range-requires c κs = search needs
+
+six-or-more-requires : tie.Need-six-or-more-requires
+six-or-more-requires c κs = search needs
+
+eeprom-range-requires : tie.Need-eeprom-range-requires
+eeprom-range-requires c κs = search needs
+
+six-or-more-requires-2 : tie.Need-six-or-more-requires-2
+six-or-more-requires-2 c κs = search needs
+
+flash-range-requires-2 : tie.Need-flash-range-requires-2
+flash-range-requires-2 c κs = search needs
+
+exact-requires : tie.Need-exact-requires
+exact-requires c κs = search needs
+
+eeprom-range-requires-2 : tie.Need-eeprom-range-requires-2
+eeprom-range-requires-2 c κs = search needs
+
+exact-requires-2 : tie.Need-exact-requires-2
+exact-requires-2 c κs = search needs
+
+blank-form-requires : tie.Need-blank-form-requires
+blank-form-requires c κs = search needs
+
+erase-form-requires : tie.Need-erase-form-requires
+erase-form-requires c κs = search needs
+
+write-form-requires : tie.Need-write-form-requires
+write-form-requires c κs = search needs
+
+byte-at-requires : tie.Need-byte-at-requires
+byte-at-requires c κs = search needs
+
+zero-third-requires : tie.Need-zero-third-requires
+zero-third-requires c κs = search needs
+
+start-form-requires : tie.Need-start-form-requires
+start-form-requires c κs = search needs
+
+zero-third-requires-2 : tie.Need-zero-third-requires-2
+zero-third-requires-2 c κs = search needs
+
+read-form-requires : tie.Need-read-form-requires
+read-form-requires c κs = search needs
+
+zero-third-requires-3 : tie.Need-zero-third-requires-3
+zero-third-requires-3 c κs = search needs
+
+returns : tie.Need-returns
+returns c = by-row _ 0x0100 _ (c .before .before .before .high-at .ensures) (c .before .before .match .keys1) (c .six-or-more .ensures ∙ rw (c .before .flash-range .ensures))
+
+returns-2 : tie.Need-returns-2
+returns-2 c = by-row _ 0x0101 _ (c .before .before .before .high-at .ensures) (c .before .before .match .keys2) (c .six-or-more2 .ensures ∙ rw (c .before .eeprom-range .ensures))
+
+returns-3 : tie.Need-returns-3
+returns-3 c = by-row _ 0x0300 _ (c .before .before .before .high-at .ensures) (c .before .before .match .keys3) (c .exact .ensures ∙ rw (c .before .flash-range2 .ensures))
+
+returns-4 : tie.Need-returns-4
+returns-4 c = by-row _ 0x0302 _ (c .before .before .before .high-at .ensures) (c .before .before .match .keys4) (c .exact2 .ensures ∙ rw (c .before .eeprom-range2 .ensures))
+
+returns-5 : tie.Need-returns-5
+returns-5 c = by-row _ 0x0301 _ (c .before .before .high-at .ensures) (c .before .match .keys5) (c .blank-form .ensures)
+
+returns-6 : tie.Need-returns-6
+returns-6 c = by-row _ 0x0400 _ (c .before .before .high-at .ensures) (c .before .match .keys6) (c .erase-form .ensures)
+
+returns-7 : tie.Need-returns-7
+returns-7 c = by-row _ 0x0401 _ (c .before .before .high-at .ensures) (c .before .match .keys7) (c .write-form .ensures)
+
+returns-8 : tie.Need-returns-8
+returns-8 c = by-row _ 0x0402 _ (c .before .before .before .high-at .ensures) (c .before .before .match .keys8) (c .zero-third .ensures ∙ rw (c .before .byte-at .ensures))
+
+returns-9 : tie.Need-returns-9
+returns-9 c = by-row _ 0x0403 _ (c .before .before .high-at .ensures) (c .before .match .keys9) (c .start-form .ensures)
+
+returns-10 : tie.Need-returns-10
+returns-10 c = by-row _ 0x0500 _ (c .before .before .high-at .ensures) (c .before .match .keys10) (c .zero-third2 .ensures)
+
+returns-11 : tie.Need-returns-11
+returns-11 c = by-row _ 0x0501 _ (c .before .before .high-at .ensures) (c .before .match .keys11) (c .read-form .ensures)
+
+returns-12 : tie.Need-returns-12
+returns-12 c = by-row _ 0x0502 _ (c .before .before .high-at .ensures) (c .before .match .keys12) (c .zero-third3 .ensures)
+
+returns-13 : tie.Need-returns-13
+unfolding form
+returns-13 c = simp (← c .before .high-at .ensures, ne-eqb _ _ (c .match .rest .0 .0 .0 .0 .0 .0 .0 .0 .0 .0 .0 .1), ne-eqb _ _ (c .match .rest .0 .0 .0 .0 .0 .0 .0 .0 .0 .0 .1), ne-eqb _ _ (c .match .rest .0 .0 .0 .0 .0 .0 .0 .0 .0 .1), ne-eqb _ _ (c .match .rest .0 .0 .0 .0 .0 .0 .0 .0 .1), ne-eqb _ _ (c .match .rest .0 .0 .0 .0 .0 .0 .0 .1), ne-eqb _ _ (c .match .rest .0 .0 .0 .0 .0 .0 .1), ne-eqb _ _ (c .match .rest .0 .0 .0 .0 .0 .1), ne-eqb _ _ (c .match .rest .0 .0 .0 .0 .1), ne-eqb _ _ (c .match .rest .0 .0 .0 .1), ne-eqb _ _ (c .match .rest .0 .0 .1), ne-eqb _ _ (c .match .rest .0 .1), ne-eqb _ _ (c .match .rest .1))
+
+pub form-of-spec : {M : Type 1} → statement M
+form-of-spec = tie.close (tie.spec high-at-requires flash-range-requires six-or-more-requires eeprom-range-requires six-or-more-requires-2 flash-range-requires-2 exact-requires eeprom-range-requires-2 exact-requires-2 blank-form-requires erase-form-requires write-form-requires byte-at-requires zero-third-requires start-form-requires zero-third-requires-2 read-form-requires zero-third-requires-3 returns returns-2 returns-3 returns-4 returns-5 returns-6 returns-7 returns-8 returns-9 returns-10 returns-11 returns-12 returns-13)

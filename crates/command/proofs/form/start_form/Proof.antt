@@ -1,0 +1,31 @@
+-- `command::form::start_form` meets its contract.
+-- Assumes nothing.
+use borrow.Author.Tests.{ne-eqb}
+use mathlib.Core.Path.{_∙_}
+use borrow.Author.Needs.{needs}
+use Rattle.command.proofs.form.start_form.Statement.{statement}
+use Rattle.command.proofs.form.start_form.Tie as tie
+
+byte-at-requires : tie.Need-byte-at-requires
+byte-at-requires c κs = search needs
+
+exact-requires : tie.Need-exact-requires
+exact-requires c κs = search needs
+
+high-at-requires : tie.Need-high-at-requires
+high-at-requires c κs = search needs
+
+exact-requires-2 : tie.Need-exact-requires-2
+exact-requires-2 c κs = search needs
+
+returns : tie.Need-returns
+returns c = c .exact .ensures ∙ simp (← c .before .before .byte-at .ensures, c .before .match .keys1)
+
+returns-2 : tie.Need-returns-2
+returns-2 c = c .exact2 .ensures ∙ simp (c .before .high-at .ensures, ← c .before .before .before .byte-at .ensures, c .before .before .match .keys2)
+
+returns-3 : tie.Need-returns-3
+returns-3 c = simp (← c .before .byte-at .ensures, ne-eqb _ _ (c .match .rest .0 .1), ne-eqb _ _ (c .match .rest .1))
+
+pub start-form-spec : {M : Type 1} → statement M
+start-form-spec = tie.close (tie.spec byte-at-requires exact-requires high-at-requires exact-requires-2 returns returns-2 returns-3)

@@ -1,0 +1,146 @@
+// The form of DNLOAD sent: which command it is, by its first bytes and its length.
+ghost use mathlib.Core.Path.{_≡_};
+ghost use lib.Dec.{eqb};
+ghost use Rattle.words.specs.Words.{byteAt};
+ghost use Rattle.board.specs.Config.{readable, writable};
+ghost use Rattle.command.specs.Form.{form, formOf, exactly, sixOrMore, eraseForm, startForm, third, flashAt, flashRange, eepromRange};
+use crate::command::Command;
+use board::Block;
+use board::EepromAddress;
+use board::FlashAddress;
+use board::Range;
+
+// A command, or data that the table has not.
+pub enum Form {
+    Is(Command),
+    Unlisted,
+}
+
+// The range of flash, and of EEPROM, after the first two bytes.
+fn flash_range(sent: &[u8]) -> Range
+    ensures { λ r. ⌜ r ≡ flashRange (now (sent .entry)) ⌝ }
+{
+    Range::Flash(
+        FlashAddress(words::high_at(sent, 2)),
+        FlashAddress(words::high_at(sent, 4)),
+    )
+}
+
+fn eeprom_range(sent: &[u8]) -> Range
+    ensures { λ r. ⌜ r ≡ eepromRange (now (sent .entry)) ⌝ }
+{
+    Range::Eeprom(
+        EepromAddress(words::high_at(sent, 2)),
+        EepromAddress(words::high_at(sent, 4)),
+    )
+}
+
+// A command whose data has to be n bytes.
+fn exact(sent: &[u8], n: usize, command: Command) -> Form
+    ensures { λ r. ⌜ r ≡ formOf (exactly n (now (sent .entry)) command) ⌝ }
+{
+    if sent.len() == n {
+        return Form::Is(command);
+    }
+    Form::Unlisted
+}
+
+// A command whose data has to be six bytes or more.
+fn six_or_more(sent: &[u8], command: Command) -> Form
+    ensures { λ r. ⌜ r ≡ formOf (sixOrMore (now (sent .entry)) command) ⌝ }
+{
+    if 6 <= sent.len() {
+        return Form::Is(command);
+    }
+    Form::Unlisted
+}
+
+// A command whose third byte has to be 00h.
+fn zero_third(sent: &[u8], n: usize, command: Command) -> Form
+    ensures { λ r. ⌜ r ≡ formOf (third (eqb (byteAt (now (sent .entry)) 2) 0x00) (exactly n (now (sent .entry)) command)) ⌝ }
+{
+    let code = words::byte_at(sent, 2);
+    if code != 0x00 {
+        return Form::Unlisted;
+    }
+    exact(sent, n, command)
+}
+
+fn blank_form(sent: &[u8]) -> Form
+    ensures { λ r. ⌜ r ≡ formOf (exactly 6 (now (sent .entry)) (Command.BlankCheck (flashAt (now (sent .entry)) 2) (flashAt (now (sent .entry)) 4))) ⌝ }
+{
+    let start = FlashAddress(words::high_at(sent, 2));
+    let end = FlashAddress(words::high_at(sent, 4));
+    exact(sent, 6, Command::BlankCheck(start, end))
+}
+
+fn erase_form(sent: &[u8]) -> Form
+    ensures { λ r. ⌜ r ≡ formOf (eraseForm (now (sent .entry))) ⌝ }
+{
+    let code = words::byte_at(sent, 2);
+    match code {
+        0x00 => exact(sent, 3, Command::EraseBlock(Block::Low)),
+        0x20 => exact(sent, 3, Command::EraseBlock(Block::Middle)),
+        0x40 => exact(sent, 3, Command::EraseBlock(Block::High)),
+        0xFF => exact(sent, 3, Command::EraseChip),
+        _ => Form::Unlisted,
+    }
+}
+
+fn write_form(sent: &[u8]) -> Form
+    ensures { λ r. ⌜ r ≡ formOf (third (writable (byteAt (now (sent .entry)) 2)) (exactly 4 (now (sent .entry)) (Command.WriteByte (byteAt (now (sent .entry)) 2) (byteAt (now (sent .entry)) 3)))) ⌝ }
+{
+    let index = words::byte_at(sent, 2);
+    let value = words::byte_at(sent, 3);
+    if board::is_writable(index) {
+        return exact(sent, 4, Command::WriteByte(index, value));
+    }
+    Form::Unlisted
+}
+
+fn start_form(sent: &[u8]) -> Form
+    ensures { λ r. ⌜ r ≡ formOf (startForm (now (sent .entry))) ⌝ }
+{
+    let code = words::byte_at(sent, 2);
+    match code {
+        0x00 => exact(sent, 3, Command::StartReset),
+        0x01 => exact(
+            sent,
+            5,
+            Command::StartAt(FlashAddress(words::high_at(sent, 3))),
+        ),
+        _ => Form::Unlisted,
+    }
+}
+
+fn read_form(sent: &[u8]) -> Form
+    ensures { λ r. ⌜ r ≡ formOf (third (readable (byteAt (now (sent .entry)) 2)) (exactly 3 (now (sent .entry)) (Command.ReadByte (byteAt (now (sent .entry)) 2)))) ⌝ }
+{
+    let index = words::byte_at(sent, 2);
+    if board::is_readable(index) {
+        return exact(sent, 3, Command::ReadByte(index));
+    }
+    Form::Unlisted
+}
+
+// The command that the data is, by its form alone.
+pub fn form_of(sent: &[u8]) -> Form
+    ensures { λ r. ⌜ r ≡ formOf (form (now (sent .entry))) ⌝ }
+{
+    let code = words::high_at(sent, 0);
+    match code {
+        0x0100 => six_or_more(sent, Command::Program(flash_range(sent))),
+        0x0101 => six_or_more(sent, Command::Program(eeprom_range(sent))),
+        0x0300 => exact(sent, 6, Command::Read(flash_range(sent))),
+        0x0302 => exact(sent, 6, Command::Read(eeprom_range(sent))),
+        0x0301 => blank_form(sent),
+        0x0400 => erase_form(sent),
+        0x0401 => write_form(sent),
+        0x0402 => zero_third(sent, 4, Command::WriteHsb(words::byte_at(sent, 3))),
+        0x0403 => start_form(sent),
+        0x0500 => zero_third(sent, 3, Command::ReadVersion),
+        0x0501 => read_form(sent),
+        0x0502 => zero_third(sent, 3, Command::ReadHsb),
+        _ => Form::Unlisted,
+    }
+}
