@@ -9,7 +9,7 @@ use Rattle.board.specs.declared.address.Range.{Range}
 use Rattle.board.specs.Memory.{rangeStart, rangeEnd, rangeCount, memorySize}
 use Rattle.command.specs.Address.{badRange, mostBytes}
 
-or-false : (t u : Bool) → (t || u) ≡ false → (t ≡ false) × (u ≡ false)
+pub or-false : (t u : Bool) → (t || u) ≡ false → (t ≡ false) × (u ≡ false)
 or-false true u q = absurd (true≢false q)
 or-false false u q = (refl, q)
 

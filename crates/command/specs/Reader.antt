@@ -14,20 +14,23 @@ pub use Rattle.command.specs.declared.reader.Reading.the-variants.{Taken
 abbrev pub parts : ℕ → ℕ → Parts
 parts b s = record { body = b; suffix = s }
 
--- where a program transfer's bytes and its suffix lie; no other command has any
+-- where a program transfer's bytes and its suffix lie; no other command has any. The data is n bytes
+abbrev pub partsFor : Command → ℕ → Parts
+partsFor (Program r) n = parts (bodyPlace r) (suffixPlace r)
+partsFor (Read r) n = parts n n
+partsFor (BlankCheck a e) n = parts n n
+partsFor (EraseBlock k) n = parts n n
+partsFor EraseChip n = parts n n
+partsFor (WriteByte i v) n = parts n n
+partsFor (WriteHsb v) n = parts n n
+partsFor StartReset n = parts n n
+partsFor (StartAt a) n = parts n n
+partsFor ReadVersion n = parts n n
+partsFor (ReadByte i) n = parts n n
+partsFor ReadHsb n = parts n n
+
 abbrev pub partsOf : Command → List ℕ → Parts
-partsOf (Program r) d = parts (bodyPlace r) (suffixPlace r)
-partsOf (Read r) d = parts (length d) (length d)
-partsOf (BlankCheck a e) d = parts (length d) (length d)
-partsOf (EraseBlock k) d = parts (length d) (length d)
-partsOf EraseChip d = parts (length d) (length d)
-partsOf (WriteByte i v) d = parts (length d) (length d)
-partsOf (WriteHsb v) d = parts (length d) (length d)
-partsOf StartReset d = parts (length d) (length d)
-partsOf (StartAt a) d = parts (length d) (length d)
-partsOf ReadVersion d = parts (length d) (length d)
-partsOf (ReadByte i) d = parts (length d) (length d)
-partsOf ReadHsb d = parts (length d) (length d)
+partsOf k d = partsFor k (length d)
 
 -- "The reader answers the command, stall or 08h, in that order without the level": form, address, whole length
 abbrev pub readForm : Option Command → List ℕ → Reading

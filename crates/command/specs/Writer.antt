@@ -1,9 +1,10 @@
 -- The host's command writer. Assumes nothing: these are definitions.
+use mathlib.Core.Path.{_≡_}
 use mathlib.Core.Bool.{Bool, false, not, _||_}
 use mathlib.Core.List.{List, [], _∷_, _++_}
-use Prim.Native.Nat.{ℕ, _/_, _%_}
+use Prim.Native.Nat.{ℕ, _+_, _/_, _%_, _≤_}
 use lib.Dec.{eqb, ltb}
-use lib.ListN.{length, replicate}
+use lib.ListN.{length, take, replicate}
 use Rattle.words.specs.Words.{if_then_else_, overlay}
 use Rattle.board.specs.declared.address.Range.{Range}
 use Rattle.board.specs.declared.address.Range.the-variants.{Flash, Eeprom}
@@ -14,6 +15,8 @@ use Rattle.board.specs.Config.{readable, writable}
 use Rattle.command.specs.Form.{Command, Program, Read, BlankCheck, EraseBlock, EraseChip, WriteByte, WriteHsb, StartReset, StartAt, ReadVersion, ReadByte, ReadHsb}
 use Rattle.command.specs.Address.{badAddress}
 use Rattle.command.specs.Transfer.{fillerSize, suffixSize, padding}
+pub use Rattle.command.specs.declared.writer.Head.{Head}
+pub use Rattle.command.specs.declared.writer.Tail.{Tail}
 pub use Rattle.command.specs.declared.writer.Written.{Written}
 pub use Rattle.command.specs.declared.writer.Written.the-variants.{Wrote, Unwritten}
 
@@ -45,27 +48,87 @@ blockCode High = 0x40
 abbrev pub zeros : ℕ → List ℕ
 zeros n = replicate n 0x00
 
--- the rows of the table; d the data and s the suffix of a program transfer
+-- nothing follows
+abbrev pub noTail : Tail
+noTail = record { zeros = 0; body = 0; suffix = 0 }
+
+-- the rows of the table; of a program transfer, what stands before its filler
+unfoldable pub headBytes : Command → List ℕ
+headBytes (Program r) = 0x01 ∷ programSelector r ∷ rangeAddresses (rangeStart r) (rangeEnd r)
+headBytes (Read r) = 0x03 ∷ readSelector r ∷ rangeAddresses (rangeStart r) (rangeEnd r)
+headBytes (BlankCheck a e) = 0x03 ∷ 0x01 ∷ rangeAddresses (a .0) (e .0)
+headBytes (EraseBlock k) = 0x04 ∷ 0x00 ∷ blockCode k ∷ []
+headBytes EraseChip = 0x04 ∷ 0x00 ∷ 0xFF ∷ []
+headBytes (WriteByte i v) = 0x04 ∷ 0x01 ∷ i ∷ v ∷ []
+headBytes (WriteHsb v) = 0x04 ∷ 0x02 ∷ 0x00 ∷ v ∷ []
+headBytes StartReset = 0x04 ∷ 0x03 ∷ 0x00 ∷ []
+headBytes (StartAt a) = 0x04 ∷ 0x03 ∷ 0x01 ∷ addressBytes (a .0)
+headBytes ReadVersion = 0x05 ∷ 0x00 ∷ 0x00 ∷ []
+headBytes (ReadByte i) = 0x05 ∷ 0x01 ∷ i ∷ []
+headBytes ReadHsb = 0x05 ∷ 0x02 ∷ 0x00 ∷ []
+
+-- how many zeros, bytes of the body and bytes of the suffix follow: none but in a program transfer. d and s are as many as given
+abbrev pub tailFor : Command → ℕ → ℕ → Tail
+tailFor (Program r) d s = record { zeros = fillerSize + padding (rangeStart r); body = d; suffix = s }
+tailFor (Read r) d s = noTail
+tailFor (BlankCheck a e) d s = noTail
+tailFor (EraseBlock k) d s = noTail
+tailFor EraseChip d s = noTail
+tailFor (WriteByte i v) d s = noTail
+tailFor (WriteHsb v) d s = noTail
+tailFor StartReset d s = noTail
+tailFor (StartAt a) d s = noTail
+tailFor ReadVersion d s = noTail
+tailFor (ReadByte i) d s = noTail
+tailFor ReadHsb d s = noTail
+
+-- ---- the same, as the code holds it
+
+-- the head is the first bytes of six
+abbrev pub headed : ℕ → ℕ → ℕ → ℕ → ℕ → ℕ → ℕ → Head
+headed n a b c d e f = record { bytes = a ∷ b ∷ c ∷ d ∷ e ∷ f ∷ []; size = n }
+
+abbrev pub rangeHead : ℕ → ℕ → ℕ → ℕ → Head
+rangeHead group selector a e = headed 6 group selector (a / 256) (a % 256) (e / 256) (e % 256)
+
+pub record HeadOf (k : Command) (h : Head) : Type 0 where
+  pub size : h .size ≡ length (headBytes k)
+  pub bytes : take (h .size) (h .bytes) ≡ headBytes k
+  pub six : length (h .bytes) ≡ 6
+
+-- what is put: head, zeros, body and suffix
+unfoldable pub putBytes : Head → Tail → List ℕ → List ℕ → List ℕ
+putBytes h t d s = take (h .size) (h .bytes) ++ zeros (t .zeros) ++ take (t .body) d ++ take (t .suffix) s
+
+-- no part is longer than what it is taken from, or than a command can have
+pub record Put (h : Head) (t : Tail) (d s : List ℕ) : Type 0 where
+  pub head-fits : h .size ≤ 6
+  pub head-whole : length (h .bytes) ≡ 6
+  pub zeros-fit : t .zeros ≤ 57
+  pub body-fits : t .body ≤ length d
+  pub body-short : t .body ≤ 65536
+  pub suffix-fits : t .suffix ≤ length s
+  pub suffix-short : t .suffix ≤ suffixSize
+
+-- 9: "writer: room too short"; "refusing, it leaves its room unwritten, and otherwise the room past its answer"
+unfoldable pub putAnswer : List ℕ → List ℕ → Written
+putAnswer bytes room = if ltb (length room) (length bytes) then Unwritten 9 else Wrote (length bytes)
+
+unfoldable pub putRoom : List ℕ → List ℕ → List ℕ
+putRoom bytes room = if ltb (length room) (length bytes) then room else overlay 0 bytes room
+
+-- ---- the whole: d the body and s the suffix of a program transfer
+
 unfoldable pub commandBytes : Command → List ℕ → List ℕ → List ℕ
-commandBytes (Program r) d s =
-    (0x01 ∷ programSelector r ∷ rangeAddresses (rangeStart r) (rangeEnd r)) ++ zeros fillerSize ++ zeros (padding (rangeStart r)) ++ d ++ s
-commandBytes (Read r) d s = 0x03 ∷ readSelector r ∷ rangeAddresses (rangeStart r) (rangeEnd r)
-commandBytes (BlankCheck a e) d s = 0x03 ∷ 0x01 ∷ rangeAddresses (a .0) (e .0)
-commandBytes (EraseBlock k) d s = 0x04 ∷ 0x00 ∷ blockCode k ∷ []
-commandBytes EraseChip d s = 0x04 ∷ 0x00 ∷ 0xFF ∷ []
-commandBytes (WriteByte i v) d s = 0x04 ∷ 0x01 ∷ i ∷ v ∷ []
-commandBytes (WriteHsb v) d s = 0x04 ∷ 0x02 ∷ 0x00 ∷ v ∷ []
-commandBytes StartReset d s = 0x04 ∷ 0x03 ∷ 0x00 ∷ []
-commandBytes (StartAt a) d s = 0x04 ∷ 0x03 ∷ 0x01 ∷ addressBytes (a .0)
-commandBytes ReadVersion d s = 0x05 ∷ 0x00 ∷ 0x00 ∷ []
-commandBytes (ReadByte i) d s = 0x05 ∷ 0x01 ∷ i ∷ []
-commandBytes ReadHsb d s = 0x05 ∷ 0x02 ∷ 0x00 ∷ []
+commandBytes k d s =
+    let t : Tail = tailFor k (length d) (length s) in
+    headBytes k ++ zeros (t .zeros) ++ take (t .body) d ++ take (t .suffix) s
 
 -- ---- its refusals
 
--- "for program data not as long as the range or suffix not 16 bytes, configuration index unknown"
-abbrev pub badWrite : Command → List ℕ → List ℕ → Bool
-badWrite (Program r) d s = not (eqb (length d) (rangeCount r)) || not (eqb (length s) suffixSize)
+-- "for program data not as long as the range or suffix not 16 bytes, configuration index unknown"; d and s bytes of data and suffix
+abbrev pub badWrite : Command → ℕ → ℕ → Bool
+badWrite (Program r) d s = not (eqb d (rangeCount r)) || not (eqb s suffixSize)
 badWrite (Read r) d s = false
 badWrite (BlankCheck a e) d s = false
 badWrite (EraseBlock k) d s = false
@@ -80,19 +143,11 @@ badWrite ReadHsb d s = false
 
 -- 8: "writer: start after end, range outside its memory, more than 1,024 bytes to program or read, .. or start address above 7FFFh"
 abbrev pub cannotWrite : Command → List ℕ → List ℕ → Bool
-cannotWrite k d s = badAddress k || badWrite k d s
+cannotWrite k d s = badAddress k || badWrite k (length d) (length s)
 
--- 9: "writer: room too short"; "The writer checks 8 before 9"
+-- "The writer checks 8 before 9"
 unfoldable pub writeCommand : Command → List ℕ → List ℕ → List ℕ → Written
-writeCommand k d s room =
-    if cannotWrite k d s then Unwritten 8 else
-    if ltb (length room) (length (commandBytes k d s)) then Unwritten 9 else
-    Wrote (length (commandBytes k d s))
-
--- "refusing, it leaves its room unwritten, and otherwise the room past its answer"
-abbrev pub writtenRoom : Written → List ℕ → List ℕ → List ℕ
-writtenRoom (Wrote n) bytes room = overlay 0 bytes room
-writtenRoom (Unwritten k) bytes room = room
+writeCommand k d s room = if cannotWrite k d s then Unwritten 8 else putAnswer (commandBytes k d s) room
 
 unfoldable pub roomAfter : Command → List ℕ → List ℕ → List ℕ → List ℕ
-roomAfter k d s room = writtenRoom (writeCommand k d s room) (commandBytes k d s) room
+roomAfter k d s room = if cannotWrite k d s then room else putRoom (commandBytes k d s) room

@@ -1,5 +1,13 @@
 // The loader's command reader.
+ghost use mathlib.Core.Path.{_≡_};
+ghost use Rattle.command.specs.Reader.{partsFor, readCommand};
+use crate::check::bad_address;
 use crate::command::Command;
+use crate::form::Form;
+use crate::form::form_of;
+use crate::transfer::body_place;
+use crate::transfer::range_count;
+use crate::transfer::wrong_length;
 
 // Where a program transfer's bytes begin in the data, and where its suffix does, which ends with the data. Any other command
 // has neither, and both numbers are the data's length.
@@ -14,4 +22,49 @@ pub enum Reading {
     Stalls,
     // Status 08h.
     BadAddress,
+}
+
+// The parts of a command whose data is n bytes.
+pub fn parts_of(command: Command, n: usize) -> Parts
+    ensures { λ r. ⌜ r ≡ partsFor command n ⌝ }
+{
+    let none = Parts { body: n, suffix: n };
+    match command {
+        Command::Program(range) => {
+            let body = body_place(range);
+            Parts {
+                body,
+                suffix: body + range_count(range),
+            }
+        }
+        Command::Read(_) => none,
+        Command::BlankCheck(_, _) => none,
+        Command::EraseBlock(_) => none,
+        Command::EraseChip => none,
+        Command::WriteByte(_, _) => none,
+        Command::WriteHsb(_) => none,
+        Command::StartReset => none,
+        Command::StartAt(_) => none,
+        Command::ReadVersion => none,
+        Command::ReadByte(_) => none,
+        Command::ReadHsb => none,
+    }
+}
+
+// Reads the data of a DNLOAD: the command with its parts, stall or 08h.
+pub fn read_command(sent: &[u8]) -> Reading
+    ensures { λ r. ⌜ r ≡ readCommand (now (sent .entry)) ⌝ }
+{
+    match form_of(sent) {
+        Form::Is(command) => {
+            if bad_address(command) {
+                return Reading::BadAddress;
+            }
+            if wrong_length(command, sent.len()) {
+                return Reading::Stalls;
+            }
+            Reading::Taken(command, parts_of(command, sent.len()))
+        }
+        Form::Unlisted => Reading::Stalls,
+    }
 }

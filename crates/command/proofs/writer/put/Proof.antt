@@ -1,0 +1,117 @@
+-- `command::writer::put` meets its contract: each part is laid right after the one before it.
+-- Assumes nothing.
+use mathlib.Core.Path.{_≡_, refl, sym, ap, _∙_}
+use mathlib.Core.List.{List, [], _++_}
+use Prim.Native.Nat.{ℕ, _+_, _≤_, _<_}
+use native.Mathlib.Omega.{arith}
+use lib.ListN.{length, take, replicate, length-append, length-replicate}
+use lib.Seq.{length-take-le}
+use borrow.Author.Tests.{lt-ltb, le-ltb}
+use Rattle.words.specs.Words.{laid}
+use Rattle.words.proofs.WordsLaws.{overlay-none, lay-after, take-replicate}
+use Rattle.command.specs.Writer.{Head, Tail, Put, Wrote, Unwritten, zeros, putBytes, putAnswer, putRoom}
+use borrow.Author.Needs.{needs}
+use Rattle.command.proofs.writer.put.Statement.{statement}
+use Rattle.command.proofs.writer.put.Tie as tie
+
+module _ (h : Head) (t : Tail) (d s room : List ℕ) (p : Put h t d s) where
+  end : ℕ
+  end = h .size + t .zeros + t .body + t .suffix
+
+  head-length : length (take (h .size) (h .bytes)) ≡ h .size
+  head-length = length-take-le (h .size) (h .bytes) (omega (arith, p))
+
+  zeros-length : length (zeros (t .zeros)) ≡ t .zeros
+  zeros-length = length-replicate {A = ℕ} (t .zeros) 0x00
+
+  body-length : length (take (t .body) d) ≡ t .body
+  body-length = length-take-le (t .body) d (p .body-fits)
+
+  suffix-length : length (take (t .suffix) s) ≡ t .suffix
+  suffix-length = length-take-le (t .suffix) s (p .suffix-fits)
+
+  zeros-taken : length {A = ℕ} (take (t .zeros) (replicate 57 0)) ≡ t .zeros
+  zeros-taken = length-take-le (t .zeros) (replicate 57 0) (p .zeros-fit)
+
+  put-length : length (putBytes h t d s) ≡ end
+  unfolding putBytes end
+  put-length = simp (length-append, head-length, zeros-length, body-length, suffix-length)
+
+  no-room : length room < end → (Unwritten 9 ≡ putAnswer (putBytes h t d s) room) × (room ≡ putRoom (putBytes h t d s) room)
+  unfolding putAnswer putRoom
+  no-room k =
+      let short = lt-ltb (length room) (length (putBytes h t d s)) (omega (arith, put-length)) in
+      (rw short, rw short)
+
+  all-put : (m₁ m₂ m₃ m₄ : List ℕ) → end ≤ length room → m₁ ≡ laid 0 (take (h .size) (h .bytes)) room
+      → m₂ ≡ laid (h .size) (take (t .zeros) (replicate 57 0)) m₁ → m₃ ≡ laid (h .size + t .zeros) (take (t .body) d) m₂
+      → m₄ ≡ laid (h .size + t .zeros + t .body) (take (t .suffix) s) m₃
+      → (Wrote end ≡ putAnswer (putBytes h t d s) room) × (m₄ ≡ putRoom (putBytes h t d s) room)
+  unfolding putBytes putAnswer putRoom end
+  all-put m₁ m₂ m₃ m₄ k q₁ q₂ q₃ q₄ =
+      let x : List ℕ = take (h .size) (h .bytes) in
+      let y : List ℕ = zeros (t .zeros) in
+      let z : List ℕ = take (t .body) d in
+      let w : List ℕ = take (t .suffix) s in
+      let e₁ = lay-after [] x room room m₁ 0 refl (omega (arith, head-length)) (sym (overlay-none 0 room)) q₁ in
+      let e₂ = lay-after x y room m₁ m₂ (h .size) (sym head-length) (omega (arith, head-length, zeros-length)) e₁
+      (q₂ ∙ ap (λ l. laid (h .size) l m₁) (take-replicate (t .zeros) 57 0 (p .zeros-fit))) in
+      let lxy : length (x ++ y) ≡ h .size + t .zeros = simp (length-append, head-length, zeros-length) in
+      let e₃ = lay-after (x ++ y) z room m₂ m₃ (h .size + t .zeros) (sym lxy) (omega (arith, lxy, body-length)) e₂ q₃ in
+      let lxyz : length (x ++ y ++ z) ≡ h .size + t .zeros + t .body = simp (length-append, head-length, zeros-length, body-length) in
+      let e₄ = lay-after (x ++ y ++ z) w room m₃ m₄ (h .size + t .zeros + t .body) (sym lxyz) (omega (arith, lxyz, suffix-length)) e₃ q₄ in
+      let room-enough = le-ltb (length room) (length (x ++ y ++ z ++ w)) (omega (arith, put-length)) in
+      (rw room-enough (ap Wrote (sym put-length)), rw room-enough e₄)
+
+add-at-body : tie.Need-add-at-body
+add-at-body c = search needs
+
+add-at-suffix : tie.Need-add-at-suffix
+add-at-suffix c = search needs
+
+add-end : tie.Need-add-end
+add-end c = search needs
+
+returns : tie.Need-returns
+unfolding end
+returns c = no-room _ _ _ _ _ (c .before .before .before .before .pre) (c .if1 .taken)
+
+array-share-prefix-bytes : tie.Need-array-share-prefix-bytes
+array-share-prefix-bytes c = search needs
+
+slice-aggregate-lay : tie.Need-slice-aggregate-lay
+slice-aggregate-lay c = sym (head-length _ _ _ _ [] (c .before .before .before .before .before .before .before .pre))
+
+lay-requires : tie.Need-lay-requires
+lay-requires c κs = search needs
+
+array-share-prefix-zeros : tie.Need-array-share-prefix-zeros
+array-share-prefix-zeros c = search needs
+
+slice-aggregate-lay-2 : tie.Need-slice-aggregate-lay-2
+slice-aggregate-lay-2 c = sym (zeros-taken _ _ _ _ [] (c .before .before .before .before .before .before .before .before .before .before .before .before .pre))
+
+lay-requires-2 : tie.Need-lay-requires-2
+lay-requires-2 c κs = search needs
+
+slice-aggregate-lay-3 : tie.Need-slice-aggregate-lay-3
+slice-aggregate-lay-3 c = sym (body-length _ _ _ _ [] (c .before .before .before .before .before .before .before .before .before .before .before .before .before .before .before .before .before .pre))
+
+lay-requires-3 : tie.Need-lay-requires-3
+lay-requires-3 c κs = search needs
+
+slice-aggregate-lay-4 : tie.Need-slice-aggregate-lay-4
+slice-aggregate-lay-4 c = sym (suffix-length _ _ _ _ [] (c .before .before .before .before .before .before .before .before .before .before .before .before .before .before .before .before .before .before .before .before .before .before .pre))
+
+lay-requires-4 : tie.Need-lay-requires-4
+lay-requires-4 c κs = search needs
+
+same-length : tie.Need-same-length
+same-length c = search needs
+
+returns-2 : tie.Need-returns-2
+unfolding end
+returns-2 c = all-put _ _ _ _ _ (c .before .before .before .before .before .before .before .before .before .before .before .before .before .before .before .before .before .before .before .before .before .before .before .before .before .pre) _ _ _ _ (c .before .before .before .before .before .before .before .before .before .before .before .before .before .before .before .before .before .before .before .before .before .if1 .left) (c .before .before .before .before .before .before .before .before .before .before .before .before .before .before .before .before .before .lay .ensures .1) (c .before .before .before .before .before .before .before .before .before .before .before .before .lay2 .ensures .1) (c .before .before .before .before .before .before .before .lay3 .ensures .1) (c .before .before .lay4 .ensures .1)
+
+pub put-spec : {M : Type 1} → statement M
+put-spec = tie.close (tie.spec add-at-body add-at-suffix add-end returns array-share-prefix-bytes slice-aggregate-lay lay-requires array-share-prefix-zeros slice-aggregate-lay-2 lay-requires-2 slice-aggregate-lay-3 lay-requires-3 slice-aggregate-lay-4 lay-requires-4 same-length returns-2)

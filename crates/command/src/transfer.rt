@@ -1,0 +1,63 @@
+// The layout of a program transfer: 32 bytes of command, X pad bytes, the n bytes, 16 suffix bytes.
+ghost use mathlib.Core.Path.{_≡_};
+ghost use Prim.Native.Nat.{_≤_};
+ghost use Rattle.words.specs.Words.{count};
+ghost use Rattle.board.specs.Memory.{rangeStart, rangeCount};
+ghost use Rattle.command.specs.Transfer.{bodyPlace, transferLength, wrongLength};
+use crate::COMMAND_SIZE;
+use crate::SUFFIX_SIZE;
+use crate::command::Command;
+use board::Range;
+
+// How many bytes a range has, both ends in it; 0 for one that is backward.
+pub fn range_count(range: Range) -> usize
+    ensures { λ r. ⌜ r ≡ rangeCount range ⌝ }
+    ensures { λ r. ⌜ r ≤ 65536 ⌝ }
+{
+    match range {
+        Range::Flash(start, end) => count(start.0, end.0),
+        Range::Eeprom(start, end) => count(start.0, end.0),
+    }
+}
+
+fn count(start: u16, end: u16) -> usize
+    ensures { λ r. ⌜ r ≡ count start end ⌝ }
+    ensures { λ r. ⌜ r ≤ 65536 ⌝ }
+{
+    let first = start as usize;
+    let past = (end as usize) + 1;
+    if past < first {
+        return 0;
+    }
+    past - first
+}
+
+// Where the n bytes of a transfer begin, after the command and X pad bytes, X being start mod 32.
+pub fn body_place(range: Range) -> usize
+    ensures { λ r. ⌜ r ≡ bodyPlace range ⌝ }
+{
+    match range {
+        Range::Flash(start, _) => COMMAND_SIZE + ((start.0 % 32) as usize),
+        Range::Eeprom(start, _) => COMMAND_SIZE + ((start.0 % 32) as usize),
+    }
+}
+
+// Whether data of n bytes has not the whole length that a program transfer has to have.
+pub fn wrong_length(command: Command, n: usize) -> bool
+    ensures { λ r. ⌜ r ≡ wrongLength command n ⌝ }
+{
+    match command {
+        Command::Program(range) => n != body_place(range) + range_count(range) + SUFFIX_SIZE,
+        Command::Read(_) => false,
+        Command::BlankCheck(_, _) => false,
+        Command::EraseBlock(_) => false,
+        Command::EraseChip => false,
+        Command::WriteByte(_, _) => false,
+        Command::WriteHsb(_) => false,
+        Command::StartReset => false,
+        Command::StartAt(_) => false,
+        Command::ReadVersion => false,
+        Command::ReadByte(_) => false,
+        Command::ReadHsb => false,
+    }
+}
