@@ -4,3 +4,4 @@ pub mod Address
 pub mod Transfer
 pub mod Reader
 pub mod Writer
+pub mod RoundTrip
