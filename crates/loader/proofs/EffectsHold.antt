@@ -1,7 +1,7 @@
 -- The statements of specs/Effects.antt hold.
 -- Assumes nothing.
 use mathlib.Core.Path.{_≡_, refl, sym, ap, _∙_, subst}
-use mathlib.Core.Bool.{Bool, true, false}
+use mathlib.Core.Bool.{Bool, true, false, not, false≢true}
 use mathlib.Core.List.{List, [], _∷_}
 use mathlib.Core.Option.{Option, none, some}
 use Prim.Native.Nat.{ℕ, _≤_}
@@ -16,25 +16,28 @@ use Rattle.board.specs.Blank.{usedIn}
 use Rattle.board.specs.Level.{level}
 use Rattle.board.specs.declared.address.Range.{Range}
 use Rattle.board.specs.declared.address.Range.the-variants.{Flash, Eeprom}
+use Rattle.board.specs.declared.level.Level.the-variants.{L0}
 use Rattle.board.specs.declared.address.Block.the-variants.{Low, Middle, High}
 use Rattle.words.proofs.WordsLaws.{overlay-programmed}
 use Rattle.board.proofs.PagesLaws.{programStores-programmed, blockStores-programmed, storeAll-chipStores, length-programStores, length-blockStores, length-chipStores, pagesMet-le}
 use Rattle.command.specs.Form.{form}
 use Rattle.command.specs.Address.{badAddress}
 use Rattle.command.specs.Transfer.{bodyOf, badLength}
-use Rattle.command.specs.Reader.{partsOf, readForm, readCommand}
-use Rattle.command.specs.declared.reader.Reading.the-variants.{Taken, Stalls, BadAddress}
+use Rattle.command.specs.Reader.{partsOf, readCommand}
+use Rattle.command.specs.declared.reader.Reading.the-variants.{Taken}
 use Rattle.command.specs.declared.command.Command.{Command}
 use Rattle.command.specs.declared.command.Command.the-variants.{Program, Read, BlankCheck, EraseBlock, EraseChip, WriteByte, WriteHsb, StartReset, StartAt, ReadVersion, ReadByte, ReadHsb}
 use Rattle.command.proofs.AddressLaws.{Good, badRange-good}
 use Rattle.command.proofs.TransferLaws.{length-bodyOf}
-use Rattle.loader.specs.Result.{Board, Result, reply, Outcome, Refused}
+use Rattle.command.proofs.ReaderLaws.{passed, taken}
+use Rattle.loader.specs.Result.{Board, Result, reply, Outcome, Stall, Refused}
 use Rattle.loader.specs.Levels.{levelStatus}
 use Rattle.loader.specs.Commands.{stall, setStatus, perform, accept, blankEffect, forbidden, obey, obeyForm}
 use Rattle.loader.specs.Requests.{requestOf, Request, Dnload, Upload, GetStatus, GetState, ClrStatus, Abort, Other, mostData, respond, dnload, endDownload, upload}
 use Rattle.loader.specs.Refusals.{refusal}
 use Rattle.loader.specs.Step.{Ask, PowerUp, ask, powerUp, step}
-use Rattle.loader.specs.Effects.{Leaves, Effects, MovesNothing, RefusalsMoveNothing, RefusalsGiven, AcceptedRightly, AcceptedOnly, Commands, AcceptedAlways, NotAcceptedSaid, StatusStays}
+use Rattle.loader.specs.Effects.{Leaves, Effects, MovesNothing, RefusalsMoveNothing, RefusalsGiven, AcceptedRightly, AcceptedOnly, Commands, AcceptedAlways, NotAcceptedSaid, StatusStays, AnsweredIsRead}
+use Rattle.loader.proofs.Ready.{commanded}
 use Rattle.loader.proofs.Shape.{Passed, Shape, refused, still, did, shape, isRefused}
 
 -- an answer that changes neither memory nor configuration
@@ -146,25 +149,11 @@ commands-answer b setup d n c =
     let m : ℕ = c .bytes in
     rw (c .not-refused, c .dnload, le-ltb mostData m (c .not-too-many), ne-eqb m 0 (omega (arith, c .some-bytes)), c .in-state)
 
--- what the reader reads passed its tests
-reader-passed : (o : Option Command) (d : List ℕ) (k : Command) → readForm o d ≡ Taken k (partsOf k d)
-    → (o ≡ some k) × (badAddress k ≡ false) × (badLength k d ≡ false)
-reader-passed none d k q = absurd (let n : _≡_ {A = ℕ} 0 1 = cc in omega arith)
-reader-passed (some c) d k q = go (badAddress c) (badLength c d) refl refl q
-  where
-    go : (t u : Bool) → badAddress c ≡ t → badLength c d ≡ u → (if t then BadAddress else if u then Stalls else Taken c (partsOf c d)) ≡ Taken k (partsOf k d)
-        → (some c ≡ some k) × (badAddress k ≡ false) × (badLength k d ≡ false)
-    go true u a l e = absurd (let n : _≡_ {A = ℕ} 0 1 = cc in omega arith)
-    go false true a l e = absurd (let n : _≡_ {A = ℕ} 0 1 = cc in omega arith)
-    go false false a l e =
-        let same : c ≡ k = cc in
-        (ap some same, subst (λ y. badAddress y ≡ false) same a, subst (λ y. badLength y d ≡ false) same l)
-
 pub accepted-always : AcceptedAlways
-unfolding obey readCommand
+unfolding obey
 accepted-always b setup d n k c q a =
-    let p = reader-passed (form d) d k q in
-    ap (λ x. x .accepted) (commands-answer b setup d n c ∙ ap (λ o. obeyForm b o d) (p .0)) ∙ rw (a, p .1, p .2)
+    let p = passed d k q in
+    ap (λ x. x .accepted) (commands-answer b setup d n c ∙ ap (λ o. obeyForm b o d) (p .formed)) ∙ rw (a, p .address-right, p .length-right)
 
 -- a command is accepted, or state 10 is left
 said : (b : Board) (d : List ℕ) (o : Option Command) → obeyForm b o d .accepted ≡ none → obeyForm b o d .session .state ≡ 10
@@ -234,3 +223,42 @@ pub status-stays : StatusStays
 unfolding ask
 status-stays b setup d n ten h =
     kept-ask b ten (eqb (refusal b setup d n) 0) (respond b (requestOf setup) d) _ (kept-respond b ten (requestOf setup) d h) (ten, refl)
+
+-- ---- the reader and the board
+
+-- at level 0 nothing but an SSB value is forbidden, and a write of a byte has neither an address nor a length to be wrong
+forbidden-plain : (k : Command) (d : List ℕ) → not (eqb (levelStatus k L0) 0x00) ≡ true → (badAddress k ≡ false) × (badLength k d ≡ false)
+forbidden-plain (WriteByte i v) d q = (refl, refl)
+forbidden-plain (Program r) d q = absurd (false≢true q)
+forbidden-plain (Read r) d q = absurd (false≢true q)
+forbidden-plain (BlankCheck a e) d q = absurd (false≢true q)
+forbidden-plain (EraseBlock b) d q = absurd (false≢true q)
+forbidden-plain EraseChip d q = absurd (false≢true q)
+forbidden-plain (WriteHsb v) d q = absurd (false≢true q)
+forbidden-plain StartReset d q = absurd (false≢true q)
+forbidden-plain (StartAt a) d q = absurd (false≢true q)
+forbidden-plain ReadVersion d q = absurd (false≢true q)
+forbidden-plain (ReadByte i) d q = absurd (false≢true q)
+forbidden-plain ReadHsb d q = absurd (false≢true q)
+
+-- which tests stop a command that is neither stalled nor given 08h
+answered : (b : Board) (k : Command) (d : List ℕ) → level (b .config) ≡ L0 → (t u w : Bool) → forbidden b k ≡ t → badAddress k ≡ u → badLength k d ≡ w
+    → (obey b k d .outcome ≡ Stall → ⊥) → (obey b k d .session .status ≡ 0x08 → ⊥) → (badAddress k ≡ false) × (badLength k d ≡ false)
+unfolding obey stall
+answered b k d l true u w f a e s v = forbidden-plain k d (rw l at f)
+answered b k d l false true w f a e s v = absurd (v (rw (f, a)))
+answered b k d l false false true f a e s v = absurd (s (rw (f, a, e)))
+answered b k d l false false false f a e s v = (a, e)
+
+read-form : (b : Board) (d : List ℕ) (o : Option Command) → form d ≡ o → level (b .config) ≡ L0
+    → (obeyForm b o d .outcome ≡ Stall → ⊥) → (obeyForm b o d .session .status ≡ 0x08 → ⊥) → (k : Command) × (readCommand d ≡ Taken k (partsOf k d))
+unfolding stall
+read-form b d none f l s v = absurd (s refl)
+read-form b d (some k) f l s v =
+    let p = answered b k d l (forbidden b k) (badAddress k) (badLength k d) refl refl refl s v in
+    (k, taken d k (record { formed = f; address-right = p .0; length-right = p .1 }))
+
+pub answered-is-read : AnsweredIsRead
+answered-is-read b r u d h m s v =
+    let e = commanded r u d h m in
+    read-form b d (form d) refl (r .at-level) (λ q. s (ap (λ x. x .outcome) e ∙ q)) (λ q. v (ap (λ x. x .session .status) e ∙ q))

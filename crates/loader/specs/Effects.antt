@@ -5,6 +5,7 @@ use mathlib.Core.Bool.{true}
 use mathlib.Core.List.{List, [], _∷_}
 use mathlib.Core.Option.{Option, none, some}
 use Prim.Native.Nat.{ℕ, _≤_, _<_}
+use lib.ListN.{length}
 use Rattle.words.specs.Words.{among, Programmed}
 use Rattle.board.specs.Memory.{blankFlash}
 use Rattle.board.specs.Pages.{pagesMet, blockStart, blockFF}
@@ -13,15 +14,17 @@ use Rattle.board.specs.Level.{level}
 use Rattle.board.specs.declared.address.Range.the-variants.{Flash, Eeprom}
 use Rattle.board.specs.declared.address.Block.the-variants.{Low, Middle, High}
 use Rattle.board.specs.declared.config.Config.{Config}
+use Rattle.board.specs.declared.level.Level.the-variants.{L0}
 use Rattle.command.specs.Transfer.{bodyOf}
 use Rattle.command.specs.Reader.{partsOf, readCommand}
 use Rattle.command.specs.declared.reader.Reading.the-variants.{Taken}
 use Rattle.command.specs.declared.command.Command.{Command}
 use Rattle.command.specs.declared.command.Command.the-variants.{Program, Read, BlankCheck, EraseBlock, EraseChip, WriteByte, WriteHsb, StartReset, StartAt, ReadVersion, ReadByte, ReadHsb}
 use Rattle.loader.specs.Levels.{levelStatus}
-use Rattle.loader.specs.Result.{Board, Result, next, pages, Done, Refused}
+use Rattle.loader.specs.Result.{Board, Result, next, pages, Done, Stall, Refused}
 use Rattle.loader.specs.Requests.{requestOf, Dnload, ClrStatus, mostData}
 use Rattle.loader.specs.Refusals.{refusal}
+use Rattle.loader.specs.BenchCases.{Ready, Unnamed, download}
 use Rattle.loader.specs.Step.{Event, Ask, PowerUp, ask, step}
 
 -- "for programming flash, the pages that the range meets; 64, 64, 128, 256 for the erases; else 0. .. at most 9 for a program
@@ -166,3 +169,12 @@ NotAcceptedSaid = (b : Board) (setup d : List ℕ) (n : ℕ) → Commands b setu
 abbrev pub StatusStays : Type 0
 StatusStays = (b : Board) (setup d : List ℕ) (n : ℕ) → b .session .state ≡ 10 → (requestOf setup ≡ ClrStatus → ⊥)
     → (ask b setup d n .session .state ≡ 10) × (ask b setup d n .session .status ≡ b .session .status)
+
+-- ---- the reader and the board
+
+-- "A payload that a level 0 board in state 2 answers without stall or 08h": the reader takes it (an SSB value that gets 03h too),
+-- so that what crates/command says of such a payload holds of this one
+abbrev pub AnsweredIsRead : Type 0
+AnsweredIsRead = (b : Board) → Ready L0 b → (u : Unnamed) (d : List ℕ) → 0 < length d → length d ≤ mostData
+    → (step b (download u d) .outcome ≡ Stall → ⊥) → (step b (download u d) .session .status ≡ 0x08 → ⊥)
+    → (k : Command) × (readCommand d ≡ Taken k (partsOf k d))

@@ -1,0 +1,11 @@
+-- `board::config::delivered` meets its contract.
+-- Assumes nothing.
+use mathlib.Core.Path.{refl}
+use Rattle.board.proofs.config.delivered.Statement.{statement}
+use Rattle.board.proofs.config.delivered.Tie as tie
+
+returns : tie.Need-returns
+returns c = refl
+
+pub delivered-spec : {M : Type 1} → statement M
+delivered-spec = tie.close (tie.spec returns)
