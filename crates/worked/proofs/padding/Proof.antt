@@ -1,0 +1,40 @@
+-- `worked::padding`: what the checks ask follows from what `body_place` and `wrong_length` ensure.
+-- Assumes nothing.
+use mathlib.Core.Path.{_∙_, ap}
+use mathlib.Core.Bool.{not}
+use Rattle.command.specs.Transfer.{bodyPlace, wrongLength}
+use Rattle.command.specs.declared.command.Command.the-variants.{Program}
+use borrow.Author.Tests.{eq-eqb}
+use borrow.Author.Needs.{needs}
+use Rattle.worked.proofs.padding.Statement.{statement}
+use Rattle.worked.proofs.padding.Tie as tie
+
+flash-requires : tie.Need-flash-requires
+flash-requires c κs = search needs
+
+body-place-requires : tie.Need-body-place-requires
+body-place-requires c κs = search needs
+
+add-expect : tie.Need-add-expect
+add-expect c = search needs
+
+expect-requires : tie.Need-expect-requires
+expect-requires c κs = eq-eqb _ _ (c .body-place .ensures ∙ ap bodyPlace (c .before .flash .ensures))
+
+wrong-length-requires : tie.Need-wrong-length-requires
+wrong-length-requires c κs = search needs
+
+expect-requires-2 : tie.Need-expect-requires-2
+expect-requires-2 c κs = ap not (c .wrong-length .ensures ∙ ap (λ r. wrongLength (Program r) 64) (c .before .before .before .flash .ensures))
+
+wrong-length-requires-2 : tie.Need-wrong-length-requires-2
+wrong-length-requires-2 c κs = search needs
+
+expect-requires-3 : tie.Need-expect-requires-3
+expect-requires-3 c κs = c .wrong-length2 .ensures ∙ ap (λ r. wrongLength (Program r) 65) (c .before .before .before .before .before .flash .ensures)
+
+returns : tie.Need-returns
+returns c = search needs
+
+pub padding-spec : {M : Type 1} → statement M
+padding-spec = tie.close (tie.spec flash-requires body-place-requires add-expect expect-requires wrong-length-requires expect-requires-2 wrong-length-requires-2 expect-requires-3 returns)

@@ -1,0 +1,23 @@
+-- `worked::security_bits`: the check follows from what `write_hsb` and `delivered` ensure.
+-- Assumes nothing.
+use mathlib.Core.Path.{_∙_, ap}
+use Rattle.board.specs.Config.{withHsb}
+use borrow.Author.Tests.{eq-eqb}
+use borrow.Author.Needs.{needs}
+use Rattle.worked.proofs.security_bits.Statement.{statement}
+use Rattle.worked.proofs.security_bits.Tie as tie
+
+delivered-requires : tie.Need-delivered-requires
+delivered-requires c κs = search needs
+
+write-hsb-requires : tie.Need-write-hsb-requires
+write-hsb-requires c κs = search needs
+
+expect-requires : tie.Need-expect-requires
+expect-requires c κs = eq-eqb _ _ (ap (λ x. x .hsb) (c .before .write-hsb .ensures ∙ ap (withHsb 0x4F) (c .before .before .delivered .ensures)))
+
+returns : tie.Need-returns
+returns c = search needs
+
+pub security-bits-spec : {M : Type 1} → statement M
+security-bits-spec = tie.close (tie.spec delivered-requires write-hsb-requires expect-requires returns)

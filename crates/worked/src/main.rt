@@ -1,0 +1,40 @@
+// The worked examples of document 01, run through the public functions. Each check is proved before it is run.
+ghost use mathlib.Core.Path.{_≡_};
+ghost use Rattle.board.specs.Memory.{flashAddress};
+use board::FlashAddress;
+use board::Range;
+use command::Command;
+
+// A range of flash.
+fn flash(start: u16, end: u16) -> Range
+    ensures { λ r. ⌜ r ≡ Range.Flash (flashAddress start) (flashAddress end) ⌝ }
+{
+    Range::Flash(FlashAddress(start), FlashAddress(end))
+}
+
+// X for 00AFh is 15; the transfer of one byte there is 64 bytes, and not 65.
+fn padding() {
+    let range = flash(0x00AF, 0x00AF);
+    check::expect(command::body_place(range) == 32 + 15);
+    check::expect(!command::wrong_length(Command::Program(range), 64));
+    check::expect(command::wrong_length(Command::Program(range), 65));
+}
+
+// 0000h-0400h is too long, 7FFFh-7FFFh is the last byte, and 8000h-8000h lies outside.
+fn addresses() {
+    check::expect(command::bad_range(flash(0x0000, 0x0400)));
+    check::expect(!command::bad_range(flash(0x7FFF, 0x7FFF)));
+    check::expect(command::bad_range(flash(0x8000, 0x8000)));
+}
+
+// HSB 4Fh over BBh is 4Bh.
+fn security_bits() {
+    let config = board::write_hsb(board::delivered(), 0x4F);
+    check::expect(config.hsb == 0x4B);
+}
+
+fn main() {
+    padding();
+    addresses();
+    security_bits();
+}
