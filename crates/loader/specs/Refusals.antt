@@ -32,8 +32,11 @@ badPending (OneByte v) = false
 badPending (Start k a) = pastFlash a
 
 -- 6: "state is none of 0, 2, 3, 5, 6, 9, 10, or status is above 0Fh, or .."
+abbrev pub knownState : ℕ → Bool
+knownState state = among state (0 ∷ 2 ∷ 3 ∷ 5 ∷ 6 ∷ 9 ∷ 10 ∷ [])
+
 abbrev pub badSession : Session → Bool
-badSession s = not (among (s .state) (0 ∷ 2 ∷ 3 ∷ 5 ∷ 6 ∷ 9 ∷ 10 ∷ [])) || ltb 0x0F (s .status) || badPending (s .pending)
+badSession s = not (knownState (s .state)) || ltb 0x0F (s .status) || badPending (s .pending)
 
 -- "Checked in this order; the first that applies is given, and none without its cause.": the number, and 0 where none applies;
 -- n the size of the reply buffer

@@ -4,7 +4,7 @@ use mathlib.Core.List.{List, [], _∷_}
 use Prim.Native.Nat.{ℕ, _+_, _/_, _%_}
 use lib.Dec.{eqb, ltb}
 use lib.ListN.{length, take}
-use Rattle.words.specs.Words.{if_then_else_, among, byteAt, lowFirst, part}
+use Rattle.words.specs.Words.{if_then_else_, among, highFirst, lowFirst, part}
 use Rattle.board.specs.Memory.{flashAddress, eepromAddress, rangeCount}
 use Rattle.board.specs.Level.{level}
 use Rattle.board.specs.declared.address.Range.{Range}
@@ -30,24 +30,25 @@ wIndex setup = lowFirst setup 4
 abbrev pub wLength : List ℕ → ℕ
 wLength setup = lowFirst setup 6
 
--- bmRequestType and bRequest are these, and "wIndex is 0"
-abbrev pub asks : ℕ → ℕ → List ℕ → Bool
-asks type request setup = eqb (byteAt setup 0) type && eqb (byteAt setup 1) request && eqb (wIndex setup) 0
+-- "wValue is 0 and wLength 6, 1, 0, 0": a request that is asked for so, and else not listed
+abbrev pub plainly : ℕ → Request → List ℕ → Request
+plainly n q setup = if eqb (wValue setup) 0 && eqb (wLength setup) n then q else Other
 
--- and "wValue is 0 and wLength 6, 1, 0, 0"
-abbrev pub asksPlainly : ℕ → ℕ → ℕ → List ℕ → Bool
-asksPlainly type request n setup = asks type request setup && eqb (wValue setup) 0 && eqb (wLength setup) n
+-- "Requests with 21h: DETACH 0, DNLOAD 1, CLRSTATUS 4, ABORT 6. With A1h: UPLOAD 2, GETSTATUS 3, GETSTATE 5.", bmRequestType and
+-- bRequest being one number: 21h and 1 is 2101h
+abbrev pub requestRow : ℕ → List ℕ → Request
+requestRow code setup =
+    if eqb code 0x2101 then Dnload (wLength setup) else
+    if eqb code 0xA102 then Upload (wLength setup) else
+    if eqb code 0xA103 then plainly 6 GetStatus setup else
+    if eqb code 0xA105 then plainly 1 GetState setup else
+    if eqb code 0x2104 then plainly 0 ClrStatus setup else
+    if eqb code 0x2106 then plainly 0 Abort setup else
+    Other
 
--- "Requests with 21h: DETACH 0, DNLOAD 1, CLRSTATUS 4, ABORT 6. With A1h: UPLOAD 2, GETSTATUS 3, GETSTATE 5. .. Anything else
--- stalls, DETACH always."
+-- "wIndex is 0."; "Anything else stalls, DETACH always."
 unfoldable pub requestOf : List ℕ → Request
-requestOf setup =
-    if asks 0x21 1 setup then Dnload (wLength setup) else
-    if asks 0xA1 2 setup then Upload (wLength setup) else
-    if asksPlainly 0xA1 3 6 setup then GetStatus else
-    if asksPlainly 0xA1 5 1 setup then GetState else
-    if asksPlainly 0x21 4 0 setup then ClrStatus else
-    if asksPlainly 0x21 6 0 setup then Abort else Other
+requestOf setup = if eqb (wIndex setup) 0 then requestRow (highFirst setup 0) setup else Other
 
 -- ---- GETSTATUS, GETSTATE, CLRSTATUS, ABORT
 

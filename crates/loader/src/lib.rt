@@ -2,12 +2,15 @@
 //
 // No public function has a `requires`: each says what it answers for every input.
 mod answer;
+mod levels;
+mod refusal;
 mod request;
 mod session;
 
 pub use answer::Answer;
 pub use answer::Outcome;
 pub use request::Request;
+pub use request::request_of;
 pub use session::Pending;
 pub use session::Session;
 pub use session::StartKind;
