@@ -1,4 +1,5 @@
 -- The proofs of the statements in specs/: Effects, BenchCases and LevelTwo.
+pub mod StatusLaws
 pub mod Shape
 pub mod EffectsHold
 pub mod Ready

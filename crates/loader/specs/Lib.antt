@@ -6,6 +6,7 @@ pub mod Commands
 pub mod Requests
 pub mod Refusals
 pub mod Step
+pub mod Answered
 pub mod BenchCases
 pub mod Effects
 pub mod LevelTwo

@@ -6,6 +6,7 @@ mod levels;
 mod refusal;
 mod request;
 mod session;
+mod status;
 
 pub use answer::Answer;
 pub use answer::Outcome;

@@ -1,0 +1,30 @@
+-- What the proofs of the small requests share.
+-- Assumes nothing.
+use mathlib.Core.Path.{_≡_, sym, ap, _∙_}
+use mathlib.Core.Bool.{Bool, true, false}
+use mathlib.Core.List.{List, [], _++_}
+use Prim.Native.Nat.{ℕ, _+_, _≤_}
+use native.Mathlib.Omega.{arith}
+use lib.ListN.{length, drop}
+use borrow.Author.Tests.{le-leb}
+use Rattle.words.specs.Words.{if_then_else_, among, laid}
+use Rattle.words.proofs.WordsLaws.{overlay-front}
+use Rattle.board.specs.declared.config.Config.{Config}
+use Rattle.loader.specs.Session.{Session, idle}
+use Rattle.loader.specs.Result.{Answer, reply, answer, Done}
+use Rattle.loader.specs.Commands.{stall}
+use Rattle.loader.specs.Requests.{clearIn}
+use Rattle.loader.specs.Answered.{bare}
+
+-- bytes laid over the front of a reply: "reply bytes past those sent stay"
+pub reply-laid : (bytes p p′ : List ℕ) → length bytes ≤ length p → p′ ≡ laid 0 bytes p → p′ ≡ bytes ++ drop (length bytes) p
+unfolding laid
+reply-laid bytes p p′ h q = q ∙ rw (le-leb (0 + length bytes) (length p) (omega arith)) (overlay-front bytes p)
+
+-- a request that clears in some states
+module _ (states : List ℕ) (s : Session) (c : Config) (a : Answer) where
+  pub clears : among (s .state) states ≡ true → a ≡ answer (reply c Done [] idle) → a ≡ answer (clearIn states (bare s c))
+  clears q p = rw q p
+
+  pub stalls : among (s .state) states ≡ false → a ≡ answer (stall (bare s c)) → a ≡ answer (clearIn states (bare s c))
+  stalls q p = rw q p

@@ -1,0 +1,43 @@
+-- `loader::status::get_status` meets its contract.
+-- Assumes nothing.
+use mathlib.Core.Path.{_≡_, refl}
+use mathlib.Core.List.{List, [], _∷_}
+use Prim.Native.Nat.{ℕ, _≤_}
+use native.Mathlib.Omega.{arith}
+use lib.ListN.{length}
+use Rattle.words.specs.Words.{laid}
+use Rattle.board.specs.declared.config.Config.{Config}
+use Rattle.loader.specs.Session.{Session, session}
+use Rattle.loader.specs.Result.{Done}
+use Rattle.loader.specs.Requests.{entered, getStatus}
+use Rattle.loader.specs.Answered.{bare, Replied}
+use Rattle.loader.proofs.StatusLaws.{reply-laid}
+use borrow.Author.Needs.{needs}
+use Rattle.loader.proofs.status.get_status.Statement.{statement}
+use Rattle.loader.proofs.status.get_status.Tie as tie
+
+told : (s : Session) (c : Config) (state : ℕ) (p p′ : List ℕ) → 1024 ≤ length p → state ≡ entered (s .state)
+    → p′ ≡ laid 0 (s .status ∷ 0 ∷ 0 ∷ 0 ∷ state ∷ 0 ∷ []) p
+    → Replied (getStatus (bare s c)) (record { outcome = Done; session = session state (s .status) (s .pending); config = c; length = 6; pages = 0 }) p′ p
+told s c state p p′ h e q = record {
+  answered = rw e;
+  reply = rw (← e) (reply-laid (s .status ∷ 0 ∷ 0 ∷ 0 ∷ state ∷ 0 ∷ []) p p′ (omega arith) q);
+}
+
+entered-requires : tie.Need-entered-requires
+entered-requires c κs = search needs
+
+slice-aggregate-lay : tie.Need-slice-aggregate-lay
+slice-aggregate-lay c = search needs
+
+lay-requires : tie.Need-lay-requires
+lay-requires c κs = search needs
+
+same-length : tie.Need-same-length
+same-length c = search needs
+
+returns : tie.Need-returns
+returns c = told (c .before .before .before .before .before .before .before .args .session) _ _ _ _ (c .before .before .before .before .before .before .before .pre) (c .before .before .before .before .before .entered .ensures) (c .before .before .lay .ensures .1)
+
+pub get-status-spec : {M : Type 1} → statement M
+get-status-spec = tie.close (tie.spec entered-requires slice-aggregate-lay lay-requires same-length returns)
