@@ -87,3 +87,23 @@ module _ (p : List ℕ) where
       row-or (highFirst p 0) 0x0500 _ _ (λ q. of-zero 3 ReadVersion (read-version q)) (
       row-or (highFirst p 0) 0x0501 _ _ (λ q. of-third (readable (byteAt p 2)) 3 (ReadByte (byteAt p 2)) (read-byte q)) (
       row-or (highFirst p 0) 0x0502 _ _ (λ q. of-zero 3 ReadHsb (read-hsb q)) says-none)))))))))))
+
+-- an index that was read can be read
+index-readable : (p : List ℕ) (k : Command) (i : ℕ) → Formed p k → k ≡ ReadByte i → readable i ≡ true
+index-readable p k i (read-byte q t l) e = let same : byteAt p 2 ≡ i = cc in rw same at t
+index-readable p k i (program-flash q l) e = absurd (let z : _≡_ {A = ℕ} 0 1 = cc in omega arith)
+index-readable p k i (program-eeprom q l) e = absurd (let z : _≡_ {A = ℕ} 0 1 = cc in omega arith)
+index-readable p k i (read-flash q l) e = absurd (let z : _≡_ {A = ℕ} 0 1 = cc in omega arith)
+index-readable p k i (read-eeprom q l) e = absurd (let z : _≡_ {A = ℕ} 0 1 = cc in omega arith)
+index-readable p k i (blank-check q l) e = absurd (let z : _≡_ {A = ℕ} 0 1 = cc in omega arith)
+index-readable p k i (erase-block b q t l) e = absurd (let z : _≡_ {A = ℕ} 0 1 = cc in omega arith)
+index-readable p k i (erase-chip q t l) e = absurd (let z : _≡_ {A = ℕ} 0 1 = cc in omega arith)
+index-readable p k i (write-byte q t l) e = absurd (let z : _≡_ {A = ℕ} 0 1 = cc in omega arith)
+index-readable p k i (write-hsb q t l) e = absurd (let z : _≡_ {A = ℕ} 0 1 = cc in omega arith)
+index-readable p k i (start-reset q t l) e = absurd (let z : _≡_ {A = ℕ} 0 1 = cc in omega arith)
+index-readable p k i (start-at q t l) e = absurd (let z : _≡_ {A = ℕ} 0 1 = cc in omega arith)
+index-readable p k i (read-version q t l) e = absurd (let z : _≡_ {A = ℕ} 0 1 = cc in omega arith)
+index-readable p k i (read-hsb q t l) e = absurd (let z : _≡_ {A = ℕ} 0 1 = cc in omega arith)
+
+pub form-readable : (p : List ℕ) (i : ℕ) → form p ≡ some (ReadByte i) → readable i ≡ true
+form-readable p i q = index-readable p (ReadByte i) i (formed p (ReadByte i) q) refl

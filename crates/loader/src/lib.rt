@@ -3,6 +3,7 @@
 // No public function has a `requires`: each says what it answers for every input.
 mod answer;
 mod levels;
+mod perform;
 mod refusal;
 mod request;
 mod session;

@@ -1,0 +1,53 @@
+-- `loader::perform::blank_check` meets its contract.
+-- Assumes nothing.
+use mathlib.Core.Path.{_≡_, sym, ap, _∙_}
+use mathlib.Core.Option.{Option, none, some}
+use Prim.Native.Nat.{ℕ}
+use native.Mathlib.Omega.{arith}
+use Rattle.board.specs.Blank.{usedIn, usedOf}
+use Rattle.board.specs.Memory.{flashAddress}
+use Rattle.board.specs.declared.address.FlashAddress.{FlashAddress}
+use Rattle.board.specs.declared.blank.Used.{Used}
+use Rattle.board.specs.declared.blank.Used.the-variants.{At, Nowhere}
+use Rattle.board.specs.declared.config.Config.{Config}
+use Rattle.command.specs.declared.command.Command.the-variants.{BlankCheck}
+use Rattle.loader.specs.Session.{Nothing, BlankReport}
+use Rattle.loader.specs.Result.{Answer, answer}
+use Rattle.loader.specs.Commands.{accept, blankEffect}
+use Rattle.loader.specs.Answered.{acceptedAnswer}
+use borrow.Author.Needs.{needs}
+use Rattle.loader.proofs.perform.blank_check.Statement.{statement}
+use Rattle.loader.proofs.perform.blank_check.Tie as tie
+
+module _ (c : Config) (s e : FlashAddress) (a : Answer) where
+  found : (o : Option ℕ) (x : FlashAddress) → usedOf o ≡ At x → a ≡ acceptedAnswer c 0x05 (BlankReport x) 0 → a ≡ answer (accept (BlankCheck s e) (blankEffect c o))
+  found none x q p = absurd (let n : _≡_ {A = ℕ} 0 1 = cc in omega arith)
+  found (some y) x q p = let same : flashAddress y ≡ x = cc in p ∙ ap (λ z. acceptedAnswer c 0x05 (BlankReport z) 0) (sym same)
+
+  clean : (o : Option ℕ) → usedOf o ≡ Nowhere → a ≡ acceptedAnswer c 0x00 Nothing 0 → a ≡ answer (accept (BlankCheck s e) (blankEffect c o))
+  clean none q p = p
+  clean (some y) q p = absurd (let n : _≡_ {A = ℕ} 0 1 = cc in omega arith)
+
+first-used-requires : tie.Need-first-used-requires
+first-used-requires c κs = search needs
+
+enum-known-address : tie.Need-enum-known-address
+enum-known-address c = search needs
+
+accepted-requires : tie.Need-accepted-requires
+accepted-requires c κs = search needs
+
+enum-told : tie.Need-enum-told
+enum-told c = search needs
+
+accepted-requires-2 : tie.Need-accepted-requires-2
+accepted-requires-2 c κs = search needs
+
+returns : tie.Need-returns
+returns c = found _ (c .before .before .before .before .before .before .args .start) (c .before .before .before .before .before .before .args .end) _ (usedIn (c .before .before .before .before .before .before .args .start .0) (c .before .before .before .before .before .before .args .end .0) (c .before .before .before .before .before .before .args .flash .now)) _ (sym (c .before .before .before .before .first-used .ensures) ∙ c .before .before .address .given .1) (c .accepted .ensures)
+
+returns-2 : tie.Need-returns-2
+returns-2 c = clean _ (c .before .before .before .before .before .args .start) (c .before .before .before .before .before .args .end) _ (usedIn (c .before .before .before .before .before .args .start .0) (c .before .before .before .before .before .args .end .0) (c .before .before .before .before .before .args .flash .now)) (sym (c .before .before .before .first-used .ensures) ∙ c .before .enum-told .given .1) (c .accepted2 .ensures)
+
+pub blank-check-spec : {M : Type 1} → statement M
+blank-check-spec = tie.close (tie.spec first-used-requires enum-known-address accepted-requires enum-told accepted-requires-2 returns returns-2)

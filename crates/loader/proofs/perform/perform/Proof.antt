@@ -1,0 +1,205 @@
+-- `loader::perform::perform` meets its contract: each arm is a row of the command table.
+-- Assumes nothing.
+use mathlib.Core.Path.{_≡_, refl, sym, ap, _∙_, subst}
+use mathlib.Core.List.{List}
+use mathlib.Core.Option.{some}
+use Prim.Native.Nat.{ℕ}
+use lib.ListN.{length}
+use Rattle.board.specs.Memory.{flashSize}
+use Rattle.board.specs.Pages.{storeAll}
+use Rattle.board.specs.Blank.{usedIn}
+use Rattle.board.specs.Config.{erasedConfig}
+use Rattle.board.specs.declared.address.FlashAddress.{FlashAddress}
+use Rattle.board.specs.Erase.{blockErase, chipErase}
+use Rattle.board.specs.declared.address.Block.{Block}
+use Rattle.board.specs.declared.config.Config.{Config}
+use Rattle.command.specs.declared.command.Command.the-variants.{BlankCheck, EraseBlock, EraseChip}
+use Rattle.command.proofs.FormLaws.{form-readable}
+use Rattle.loader.specs.Session.{idle, Nothing, OneByte}
+use Rattle.loader.specs.Result.{Answer, answer, board, patchAll}
+use Rattle.loader.specs.Commands.{blankEffect, perform, accept}
+use Rattle.loader.specs.Answered.{Answered, Acceptable, acceptedAnswer}
+use Rattle.loader.proofs.PerformLaws.{blank-stored, blank-patched, blockErase-sized, chipErase-sized}
+use borrow.Author.Needs.{needs}
+use Rattle.loader.proofs.perform.perform.Statement.{statement}
+use Rattle.loader.proofs.perform.perform.Tie as tie
+
+-- a blank check leaves both memories
+blank-checked : (s t : FlashAddress) (c : Config) (d f e : List ℕ) (a : Answer) → a ≡ answer (accept (BlankCheck s t) (blankEffect c (usedIn (s .0) (t .0) f)))
+    → Answered (board idle c f e) (accept (BlankCheck s t) (perform (board idle c f e) (BlankCheck s t) d)) a f e
+unfolding perform
+blank-checked s t c d f e a q =
+    let o = usedIn (s .0) (t .0) f in
+    record { answered = q; flash = sym (ap (λ x. storeAll x f) (blank-stored c o)); eeprom = sym (ap (λ x. patchAll x e) (blank-patched c o)) }
+
+block-erased : (k : Block) (c : Config) (d f e f′ : List ℕ) {n : ℕ} (a : Answer) → length f ≡ flashSize → n ≡ length (blockErase k f)
+    → f′ ≡ storeAll (blockErase k f) f → a ≡ acceptedAnswer c 0x00 Nothing n
+    → Answered (board idle c f e) (accept (EraseBlock k) (perform (board idle c f e) (EraseBlock k) d)) a f′ e
+unfolding perform
+block-erased k c d f e f′ a h p q r =
+    let s = blockErase-sized k f h in
+    record { answered = r ∙ ap (acceptedAnswer c 0x00 Nothing) (p ∙ ap length s); flash = q ∙ ap (λ x. storeAll x f) s; eeprom = refl }
+
+chip-erased : (c c′ : Config) (d f e f′ : List ℕ) {n : ℕ} (a : Answer) → length f ≡ flashSize → c′ ≡ erasedConfig c → n ≡ length (chipErase f)
+    → f′ ≡ storeAll (chipErase f) f → a ≡ acceptedAnswer c′ 0x00 Nothing n
+    → Answered (board idle c f e) (accept EraseChip (perform (board idle c f e) EraseChip d)) a f′ e
+unfolding perform
+chip-erased c c′ d f e f′ {n} a h g p q r =
+    let s = chipErase-sized f h in
+    record {
+      answered = r ∙ ap (λ x. acceptedAnswer x 0x00 Nothing n) g ∙ ap (acceptedAnswer (erasedConfig c) 0x00 Nothing) (p ∙ ap length s);
+      flash = q ∙ ap (λ x. storeAll x f) s;
+      eeprom = refl;
+    }
+
+enum-known-command : tie.Need-enum-known-command
+enum-known-command c = search needs
+
+program-requires : tie.Need-program-requires
+program-requires c κs = subst (λ k. Acceptable k (c .before .before .before .before .before .before .before .before .args .sent .now) (c .before .before .before .before .before .before .before .before .args .flash .now) (c .before .before .before .before .before .before .before .before .args .eeprom .now)) (c .before .before .before .command .given .1) (c .before .before .before .before .before .before .before .before .pre)
+
+enum-known-command-2 : tie.Need-enum-known-command-2
+enum-known-command-2 c = search needs
+
+accepted-requires : tie.Need-accepted-requires
+accepted-requires c κs = search needs
+
+enum-known-command-3 : tie.Need-enum-known-command-3
+enum-known-command-3 c = search needs
+
+blank-check-requires : tie.Need-blank-check-requires
+blank-check-requires c κs = search needs
+
+enum-known-command-4 : tie.Need-enum-known-command-4
+enum-known-command-4 c = search needs
+
+erase-block-requires : tie.Need-erase-block-requires
+erase-block-requires c κs = search needs
+
+accepted-requires-2 : tie.Need-accepted-requires-2
+accepted-requires-2 c κs = search needs
+
+enum-told : tie.Need-enum-told
+enum-told c = search needs
+
+erase-chip-requires : tie.Need-erase-chip-requires
+erase-chip-requires c κs = search needs
+
+config-after-erase-requires : tie.Need-config-after-erase-requires
+config-after-erase-requires c κs = search needs
+
+accepted-requires-3 : tie.Need-accepted-requires-3
+accepted-requires-3 c κs = search needs
+
+enum-known-command-5 : tie.Need-enum-known-command-5
+enum-known-command-5 c = search needs
+
+write-byte-requires : tie.Need-write-byte-requires
+write-byte-requires c κs = search needs
+
+accepted-requires-4 : tie.Need-accepted-requires-4
+accepted-requires-4 c κs = search needs
+
+enum-known-command-6 : tie.Need-enum-known-command-6
+enum-known-command-6 c = search needs
+
+write-hsb-requires : tie.Need-write-hsb-requires
+write-hsb-requires c κs = search needs
+
+accepted-requires-5 : tie.Need-accepted-requires-5
+accepted-requires-5 c κs = search needs
+
+enum-told-2 : tie.Need-enum-told-2
+enum-told-2 c = search needs
+
+accepted-requires-6 : tie.Need-accepted-requires-6
+accepted-requires-6 c κs = search needs
+
+enum-known-command-7 : tie.Need-enum-known-command-7
+enum-known-command-7 c = search needs
+
+accepted-requires-7 : tie.Need-accepted-requires-7
+accepted-requires-7 c κs = search needs
+
+enum-told-3 : tie.Need-enum-told-3
+enum-told-3 c = search needs
+
+accepted-requires-8 : tie.Need-accepted-requires-8
+accepted-requires-8 c κs = search needs
+
+enum-known-command-8 : tie.Need-enum-known-command-8
+enum-known-command-8 c = search needs
+
+byte-of-requires : tie.Need-byte-of-requires
+byte-of-requires c κs = form-readable _ _ (c .before .before .before .before .before .before .pre .formed ∙ ap some (c .before .command8 .given .1))
+
+accepted-requires-9 : tie.Need-accepted-requires-9
+accepted-requires-9 c κs = search needs
+
+enum-told-4 : tie.Need-enum-told-4
+enum-told-4 c = search needs
+
+accepted-requires-10 : tie.Need-accepted-requires-10
+accepted-requires-10 c κs = search needs
+
+same-length : tie.Need-same-length
+same-length c = search needs
+
+same-length-2 : tie.Need-same-length-2
+same-length-2 c = search needs
+
+returns : tie.Need-returns
+returns c = rw (c .before .before .before .before .before .before .before .before .command .given .1) (c .before .before .before .before .program .ensures)
+
+returns-2 : tie.Need-returns-2
+unfolding perform
+returns-2 c = rw (c .before .before .command2 .given .1) (record { answered = c .accepted .ensures; flash = refl; eeprom = refl })
+
+same-length-3 : tie.Need-same-length-3
+same-length-3 c = search needs
+
+returns-3 : tie.Need-returns-3
+returns-3 c = rw (c .before .before .before .command3 .given .1) (blank-checked _ _ _ _ _ _ _ (c .blank-check .ensures))
+
+same-length-4 : tie.Need-same-length-4
+same-length-4 c = search needs
+
+returns-4 : tie.Need-returns-4
+returns-4 c = rw (c .before .before .before .before .before .before .command4 .given .1) (block-erased _ _ _ _ _ _ _ (c .before .before .before .before .before .before .before .before .before .before .before .pre .sizes .flash-size) (c .before .before .before .erase-block .ensures .0) (c .before .before .before .erase-block .ensures .1) (c .accepted2 .ensures))
+
+same-length-5 : tie.Need-same-length-5
+same-length-5 c = search needs
+
+returns-5 : tie.Need-returns-5
+returns-5 c = rw (c .before .before .before .before .before .before .enum-told .given .1) (chip-erased _ _ _ _ _ _ _ (c .before .before .before .before .before .before .before .before .before .before .before .pre .sizes .flash-size) (c .before .config-after-erase .ensures) (c .before .before .before .before .erase-chip .ensures .0) (c .before .before .before .before .erase-chip .ensures .1) (c .accepted3 .ensures))
+
+returns-6 : tie.Need-returns-6
+unfolding perform
+returns-6 c = rw (c .before .before .before .command5 .given .1) (record { answered = c .accepted4 .ensures ∙ ap (λ x. acceptedAnswer x 0x00 Nothing 0) (c .before .write-byte .ensures); flash = refl; eeprom = refl })
+
+returns-7 : tie.Need-returns-7
+unfolding perform
+returns-7 c = rw (c .before .before .before .command6 .given .1) (record { answered = c .accepted5 .ensures ∙ ap (λ x. acceptedAnswer x 0x00 Nothing 0) (c .before .write-hsb .ensures); flash = refl; eeprom = refl })
+
+returns-8 : tie.Need-returns-8
+unfolding perform
+returns-8 c = rw (c .before .enum-told2 .given .1) (record { answered = c .accepted6 .ensures; flash = refl; eeprom = refl })
+
+returns-9 : tie.Need-returns-9
+unfolding perform
+returns-9 c = rw (c .before .before .command7 .given .1) (record { answered = c .accepted7 .ensures; flash = refl; eeprom = refl })
+
+returns-10 : tie.Need-returns-10
+unfolding perform
+returns-10 c = rw (c .before .enum-told3 .given .1) (record { answered = c .accepted8 .ensures; flash = refl; eeprom = refl })
+
+returns-11 : tie.Need-returns-11
+unfolding perform
+returns-11 c = rw (c .before .before .before .command8 .given .1) (record { answered = c .accepted9 .ensures ∙ ap (λ x. acceptedAnswer (c .before .before .before .before .before .before .before .before .args .config) 0x00 (OneByte x) 0) (c .before .byte-of .ensures); flash = refl; eeprom = refl })
+
+returns-12 : tie.Need-returns-12
+unfolding perform
+returns-12 c = rw (c .before .enum-told4 .given .1) (record { answered = c .accepted10 .ensures; flash = refl; eeprom = refl })
+
+pub perform-spec : {M : Type 1} → statement M
+perform-spec = tie.close (tie.spec enum-known-command program-requires enum-known-command-2 accepted-requires enum-known-command-3 blank-check-requires enum-known-command-4 erase-block-requires accepted-requires-2 enum-told erase-chip-requires config-after-erase-requires accepted-requires-3 enum-known-command-5 write-byte-requires accepted-requires-4 enum-known-command-6 write-hsb-requires accepted-requires-5 enum-told-2 accepted-requires-6 enum-known-command-7 accepted-requires-7 enum-told-3 accepted-requires-8 enum-known-command-8 byte-of-requires accepted-requires-9 enum-told-4 accepted-requires-10 same-length same-length-2 returns returns-2 same-length-3 returns-3 same-length-4 returns-4 same-length-5 returns-5 returns-6 returns-7 returns-8 returns-9 returns-10 returns-11 returns-12)

@@ -1,0 +1,137 @@
+// What an accepted command does.
+ghost use mathlib.Core.Path.{_≡_};
+ghost use mathlib.Core.Bool.{true};
+ghost use lib.ListN.{length};
+ghost use Rattle.board.specs.Config.{readable, configByte};
+ghost use Rattle.loader.specs.Session.{idle};
+ghost use Rattle.board.specs.Blank.{usedIn};
+ghost use Rattle.loader.specs.Result.{board as boardOf, answer};
+ghost use Rattle.loader.specs.Commands.{perform as performOf, accept, blankEffect};
+ghost use Rattle.loader.specs.Answered.{Answered, Acceptable, acceptedAnswer};
+use crate::answer::Answer;
+use crate::answer::Outcome;
+use crate::session::Pending;
+use crate::session::Session;
+use crate::session::StartKind;
+use board::ByteRead;
+use board::Config;
+use board::FlashAddress;
+use board::Range;
+use board::Used;
+use command::Command;
+
+// "bootloader version 12h (our choice)".
+const VERSION: u8 = 0x12;
+
+// State 3, a status and what is pending.
+fn accepted(config: Config, status: u8, pending: Pending, pages: usize) -> Answer
+    ensures { λ r. ⌜ r ≡ acceptedAnswer config status pending pages ⌝ }
+{
+    Answer {
+        outcome: Outcome::Done,
+        session: Session {
+            state: 3,
+            status,
+            pending,
+        },
+        config,
+        length: 0,
+        pages,
+    }
+}
+
+// The byte of an index that can be read.
+fn byte_of(config: Config, index: u8) -> u8
+    requires { ⌜ readable index ≡ true ⌝ }
+    ensures { λ r. ⌜ r ≡ configByte index config ⌝ }
+{
+    match board::read_byte(config, index) {
+        ByteRead::Value(value) => value,
+        ByteRead::Unknown => 0,
+    }
+}
+
+fn program(config: Config, range: Range, sent: &[u8], flash: &mut [u8], eeprom: &mut [u8]) -> Answer
+    requires { ⌜ Acceptable (Command.Program range) (now sent) (now flash) (now eeprom) ⌝ }
+    ensures { λ r. ⌜ Answered (boardOf idle config (now (flash .entry)) (now (eeprom .entry))) (accept (Command.Program range) (performOf (boardOf idle config (now (flash .entry)) (now (eeprom .entry))) (Command.Program range) (now (sent .entry)))) r (now (flash .exit)) (now (eeprom .exit)) ⌝ }
+{
+    let body = command::body_place(range);
+    let suffix = body + command::range_count(range);
+    let pages = board::program(range, &sent[body..suffix], flash, eeprom);
+    accepted(config, 0x00, Pending::Nothing, pages)
+}
+
+// The first byte that is not FFh is reported with 05h.
+fn blank_check(config: Config, start: FlashAddress, end: FlashAddress, flash: &[u8]) -> Answer
+    ensures { λ r. ⌜ r ≡ answer (accept (Command.BlankCheck start end) (blankEffect config (usedIn (start .0) (end .0) (now (flash .entry))))) ⌝ }
+{
+    match board::first_used(flash, start, end) {
+        Used::At(address) => accepted(config, 0x05, Pending::BlankReport(address), 0),
+        Used::Nowhere => accepted(config, 0x00, Pending::Nothing, 0),
+    }
+}
+
+// Does what an accepted command says.
+pub fn perform(
+    config: Config,
+    command: Command,
+    sent: &[u8],
+    flash: &mut [u8],
+    eeprom: &mut [u8],
+) -> Answer
+    requires { ⌜ Acceptable command (now sent) (now flash) (now eeprom) ⌝ }
+    ensures { λ r. ⌜ Answered (boardOf idle config (now (flash .entry)) (now (eeprom .entry))) (accept command (performOf (boardOf idle config (now (flash .entry)) (now (eeprom .entry))) command (now (sent .entry)))) r (now (flash .exit)) (now (eeprom .exit)) ⌝ }
+{
+    match command {
+        Command::Program(range) => program(config, range, sent, flash, eeprom),
+        Command::Read(range) => accepted(config, 0x00, Pending::MemoryRead(range), 0),
+        Command::BlankCheck(start, end) => blank_check(config, start, end, flash),
+        Command::EraseBlock(block) => accepted(
+            config,
+            0x00,
+            Pending::Nothing,
+            board::erase_block(flash, block),
+        ),
+        Command::EraseChip => {
+            let pages = board::erase_chip(flash);
+            accepted(
+                board::config_after_erase(config),
+                0x00,
+                Pending::Nothing,
+                pages,
+            )
+        }
+        Command::WriteByte(index, value) => accepted(
+            board::write_byte(config, index, value),
+            0x00,
+            Pending::Nothing,
+            0,
+        ),
+        Command::WriteHsb(value) => accepted(
+            board::write_hsb(config, value),
+            0x00,
+            Pending::Nothing,
+            0,
+        ),
+        Command::StartReset => accepted(
+            config,
+            0x00,
+            Pending::Start(StartKind::Reset, FlashAddress(0x0000)),
+            0,
+        ),
+        Command::StartAt(address) => accepted(
+            config,
+            0x00,
+            Pending::Start(StartKind::AtAddress, address),
+            0,
+        ),
+        Command::ReadVersion => accepted(config, 0x00, Pending::OneByte(VERSION), 0),
+        Command::ReadByte(index) => accepted(
+            config,
+            0x00,
+            Pending::OneByte(byte_of(config, index)),
+            0,
+        ),
+        Command::ReadHsb => accepted(config, 0x00, Pending::OneByte(config.hsb), 0),
+    }
+}
