@@ -1,4 +1,4 @@
-// The form of DNLOAD sent: which command it is, by its first bytes and its length.
+// The form of DNLOAD data: which command it is, by its first bytes and its length.
 ghost use mathlib.Core.Path.{_≡_};
 ghost use lib.Dec.{eqb};
 ghost use Rattle.words.specs.Words.{byteAt};

@@ -33,7 +33,7 @@ use Rattle.command.proofs.ReaderLaws.{passed, taken}
 use Rattle.loader.specs.Result.{Board, Result, reply, Outcome, Stall, Refused}
 use Rattle.loader.specs.Levels.{levelStatus}
 use Rattle.loader.specs.Commands.{stall, setStatus, perform, accept, blankEffect, forbidden, obey, obeyForm}
-use Rattle.loader.specs.Requests.{requestOf, Request, Dnload, Upload, GetStatus, GetState, ClrStatus, Abort, Other, mostData, respond, dnload, endDownload, upload}
+use Rattle.loader.specs.Requests.{requestOf, Request, Dnload, Upload, GetStatus, GetState, ClrStatus, Abort, Other, mostData, respond, dnload, endPlain, endDownload, upload}
 use Rattle.loader.specs.Refusals.{refusal}
 use Rattle.loader.specs.Step.{Ask, PowerUp, ask, powerUp, step}
 use Rattle.loader.specs.Effects.{Leaves, Effects, MovesNothing, RefusalsMoveNothing, RefusalsGiven, AcceptedRightly, AcceptedOnly, Commands, AcceptedAlways, NotAcceptedSaid, StatusStays, AnsweredIsRead}
@@ -196,7 +196,7 @@ module _ (b : Board) (ten : b .session .state ≡ 10) where
   kept-both false false x h = h
 
   kept-endDownload : endDownload b ≡ stall b
-  unfolding endDownload
+  unfolding endDownload endPlain
   kept-endDownload = rw ten
 
   kept-respond : (q : Request) (d : List ℕ) → (q ≡ ClrStatus → ⊥) → Kept (respond b q d)

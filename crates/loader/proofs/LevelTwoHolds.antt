@@ -31,7 +31,7 @@ use Rattle.command.specs.declared.command.Command.the-variants.{Program, Read, 
 use Rattle.loader.specs.Session.{Session, session, idle, Pending, Nothing, MemoryRead, BlankReport, OneByte, Start}
 use Rattle.loader.specs.Result.{Board, board, Result, reply, next, Outcome}
 use Rattle.loader.specs.Commands.{stall, perform, accept, blankEffect, obey, obeyForm}
-use Rattle.loader.specs.Requests.{Request, Dnload, Upload, GetStatus, GetState, ClrStatus, Abort, Other, requestOf, dnload, endDownload, upload, send, respond}
+use Rattle.loader.specs.Requests.{Request, Dnload, Upload, GetStatus, GetState, ClrStatus, Abort, Other, requestOf, dnload, endPlain, endDownload, upload, send, respond}
 use Rattle.loader.specs.Refusals.{refusal}
 use Rattle.loader.specs.Step.{Event, Ask, PowerUp, ask, step, Report, reports, lastSent}
 use Rattle.loader.specs.BenchCases.{Ready, Unnamed, download, askStatus}
@@ -75,7 +75,7 @@ module _ (s : Session) (c : Config) (f f′ e e′ : List ℕ) (lv : level c ≡
   obeyForm-same (some k) d = obey-same k d
 
   dnload-same : (n : ℕ) (d : List ℕ) → dnload (board s c f e) n d ≡ dnload (board s c f′ e′) n d
-  unfolding dnload endDownload stall
+  unfolding dnload endDownload endPlain stall
   dnload-same n d = rw (obeyForm-same (form d) d)
 
   respond-same : (q : Request) (d : List ℕ) → respond (board s c f e) q d ≡ respond (board s c f′ e′) q d

@@ -1,6 +1,7 @@
 -- The proofs of the statements in specs/: Effects, BenchCases and LevelTwo.
 pub mod StatusLaws
 pub mod PerformLaws
+pub mod DownloadLaws
 pub mod Shape
 pub mod EffectsHold
 pub mod Ready

@@ -20,7 +20,7 @@ use Rattle.loader.specs.Session.{Session, Pending, Nothing, MemoryRead, 
 use Rattle.loader.specs.Levels.{levelStatus}
 use Rattle.loader.specs.Result.{Board, Result, reply, Outcome, Done, Stall, Started, Refused}
 use Rattle.loader.specs.Commands.{stall, perform, accept, forbidden, obey, obeyForm}
-use Rattle.loader.specs.Requests.{Request, Dnload, Upload, GetStatus, GetState, ClrStatus, Abort, Other, requestOf, startPending, startOf, endDownload, mostData, dnload, sendable, send, upload, respond}
+use Rattle.loader.specs.Requests.{Request, Dnload, Upload, GetStatus, GetState, ClrStatus, Abort, Other, requestOf, startPending, startOf, endPlain, endDownload, mostData, dnload, sendable, send, upload, respond}
 use Rattle.loader.specs.Refusals.{refusal}
 use Rattle.loader.specs.Step.{ask}
 
@@ -76,7 +76,7 @@ module _ (b : Board) (number : ℕ) (d : List ℕ) (hf : length (b .flash) ≡ f
   of-form (some k) f = of-obey k f
 
   of-endDownload : Shape b number d (endDownload b)
-  unfolding endDownload
+  unfolding endDownload endPlain
   of-endDownload =
       pick (among (b .session .state) (3 ∷ 5 ∷ []) && startPending (b .session .pending))
       (λ x. still _ _ _ (start-plain (b .session .pending)) refl) (λ x.

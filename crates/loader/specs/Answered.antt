@@ -34,6 +34,11 @@ pub record Sizes (f e : List ℕ) : Type 0 where
   pub flash-size : length f ≡ flashSize
   pub eeprom-size : length e ≡ eepromSize
 
+-- a command whose form is right
+pub record Formed (k : Command) (d f e : List ℕ) : Type 0 where
+  pub sizes : Sizes f e
+  pub formed : form d ≡ some k
+
 -- a command of data d that nothing stops but the level
 pub record Acceptable (k : Command) (d f e : List ℕ) : Type 0 where
   pub sizes : Sizes f e

@@ -156,8 +156,7 @@ abbrev pub AcceptedAlways : Type 0
 AcceptedAlways = (b : Board) (setup d : List ℕ) (n : ℕ) (k : Command) → Commands b setup d n
     → readCommand d ≡ Taken k (partsOf k d) → levelStatus k (level (b .config)) ≡ 0x00 → ask b setup d n .accepted ≡ some k
 
--- "and refused the write, and only a status said so": a command that was not accepted leaves state 10, and what was accepted is
--- all that moves a memory or the configuration
+-- a command that was not accepted leaves state 10; by `Effects`, memories and configuration then stay
 abbrev pub NotAcceptedSaid : Type 0
 NotAcceptedSaid = (b : Board) (setup d : List ℕ) (n : ℕ) → Commands b setup d n
     → ask b setup d n .accepted ≡ none → ask b setup d n .session .state ≡ 10

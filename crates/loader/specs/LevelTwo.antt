@@ -1,5 +1,6 @@
--- Demand 3: what level 2 gives away of the flash. Two boards with the same blank bytes can't be told apart, and two with
--- different ones can. Proved in proofs/LevelTwoHolds.antt.
+-- What level 2 gives away of the flash. 01 calls this demand 3 and does not spell it out: it has "Demand 3 is stated over demand
+-- 2's definition", and "demand 3's converse". Two boards with the same blank bytes can't be told apart; the converse is that two
+-- with different ones can. Proved in proofs/LevelTwoHolds.antt.
 use mathlib.Core.Logic.{_↔_}
 use mathlib.Core.Path.{_≡_}
 use mathlib.Core.Bool.{Bool, true, false}
@@ -17,7 +18,7 @@ use Rattle.loader.specs.Result.{Board, Result, next}
 use Rattle.loader.specs.Step.{Event, PowerUp, step, reports, lastSent}
 use Rattle.loader.specs.BenchCases.{Unnamed, download, askStatus}
 
--- "the same blank flash bytes": FFh at the same addresses
+-- the same blank flash bytes: FFh at the same addresses
 abbrev pub SameBlank : List ℕ → List ℕ → Type 0
 SameBlank f f′ = (i : ℕ) → i < length f → (getD f i 0 ≡ 0xFF) ↔ (getD f′ i 0 ≡ 0xFF)
 
@@ -46,17 +47,17 @@ isChipErase (some ReadVersion) = false
 isChipErase (some (ReadByte i)) = false
 isChipErase (some ReadHsb) = false
 
--- the events "up to and including the first full chip erase"
+-- the events up to and including the first full chip erase
 abbrev pub upToErase : Board → List Event → List Event
 upToErase b [] = []
 upToErase b (v ∷ vs) = v ∷ (if isChipErase (step b v .accepted) then [] else upToErase (next b (step b v)) vs)
 
--- "can't be told apart by any requests and power-ups up to and including the first full chip erase": every answer, session,
--- configuration and page count is equal
+-- such boards can't be told apart by any requests and power-ups up to and including the first full chip erase: every answer,
+-- session, configuration and page count is equal
 abbrev pub KeptSecret : Type 0
 KeptSecret = (b b′ : Board) → Alike b b′ → (vs : List Event) → reports b (upToErase b vs) ≡ reports b′ (upToErase b′ vs)
 
--- "(with equal EEPROMs, ever)"
+-- with equal EEPROMs they can never be told apart, not even after a full chip erase
 abbrev pub KeptSecretEver : Type 0
 KeptSecretEver = (b b′ : Board) → Alike b b′ → b .eeprom ≡ b′ .eeprom → (vs : List Event) → reports b vs ≡ reports b′ vs
 
@@ -69,7 +70,7 @@ pub record Sized (b : Board) : Type 0 where
 abbrev pub probe : Unnamed → ℕ → List Event
 probe u x = PowerUp ∷ download u (0x03 ∷ 0x01 ∷ x / 256 ∷ x % 256 ∷ x / 256 ∷ x % 256 ∷ []) ∷ askStatus u ∷ []
 
--- "boards with different blank bytes are told apart by one blank check": of any session and configuration, by what the host is
+-- boards with different blank bytes are told apart by one blank check: of any session and configuration, by what the host is
 -- sent
 abbrev pub ToldApart : Type 0
 ToldApart = (b b′ : Board) → Sized b → Sized b′ → (SameBlank (b .flash) (b′ .flash) → ⊥) → (u : Unnamed)

@@ -94,14 +94,17 @@ startOf (BlankReport a) = Done
 startOf (OneByte v) = Done
 startOf (Start k a) = Started k a
 
+-- "else in 5 state 6, nothing pending .. ; else stall."
+unfoldable pub endPlain : Board → Result
+endPlain b = if eqb (b .session .state) 5 then reply (b .config) Done [] (session 6 (b .session .status) Nothing) else stall b
+
 -- "wLength 0: in 3 or 5 with a start pending, the answer is start with its kind and address, state 0, nothing pending; else in 5
 -- state 6, nothing pending (both keep the status); else stall."
 unfoldable pub endDownload : Board → Result
 endDownload b =
     if among (b .session .state) (3 ∷ 5 ∷ []) && startPending (b .session .pending)
     then reply (b .config) (startOf (b .session .pending)) [] (session 0 (b .session .status) Nothing) else
-    if eqb (b .session .state) 5 then reply (b .config) Done [] (session 6 (b .session .status) Nothing) else
-    stall b
+    endPlain b
 
 -- "over 1,103"
 abbrev pub mostData : ℕ

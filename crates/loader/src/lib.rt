@@ -2,6 +2,7 @@
 //
 // No public function has a `requires`: each says what it answers for every input.
 mod answer;
+mod download;
 mod levels;
 mod perform;
 mod refusal;
