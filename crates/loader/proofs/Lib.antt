@@ -2,6 +2,7 @@
 pub mod StatusLaws
 pub mod PerformLaws
 pub mod DownloadLaws
+pub mod UploadLaws
 pub mod Shape
 pub mod EffectsHold
 pub mod Ready

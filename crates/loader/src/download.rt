@@ -1,14 +1,10 @@
 // DNLOAD: a command, or the end of a download.
 ghost use mathlib.Core.Path.{_≡_};
-ghost use mathlib.Core.Option.{some};
 ghost use Rattle.command.specs.Form.{form};
 ghost use Rattle.loader.specs.Result.{board as boardOf, answer};
 ghost use Rattle.loader.specs.Commands.{obey as obeyOf, obeyForm};
 ghost use Rattle.loader.specs.Requests.{endPlain, endDownload, dnload as dnloadOf};
 ghost use Rattle.loader.specs.Answered.{bare, Answered, Sizes, Formed};
-use board::Config;
-use command::Command;
-use command::Form;
 use crate::answer::Answer;
 use crate::answer::Outcome;
 use crate::levels::level_status;
@@ -17,9 +13,19 @@ use crate::session::Pending;
 use crate::session::Session;
 use crate::status::quiet;
 use crate::status::stall;
+use board::Config;
+use command::Command;
+use command::Form;
 
 // A command whose form is right: the level, the address, and at last the whole length; then it is done.
-fn obey(session: Session, config: Config, command: Command, sent: &[u8], flash: &mut [u8], eeprom: &mut [u8]) -> Answer
+fn obey(
+    session: Session,
+    config: Config,
+    command: Command,
+    sent: &[u8],
+    flash: &mut [u8],
+    eeprom: &mut [u8],
+) -> Answer
     requires { ⌜ Formed command (now sent) (now flash) (now eeprom) ⌝ }
     ensures { λ r. ⌜ Answered (boardOf session config (now (flash .entry)) (now (eeprom .entry))) (obeyOf (boardOf session config (now (flash .entry)) (now (eeprom .entry))) command (now (sent .entry))) r (now (flash .exit)) (now (eeprom .exit)) ⌝ }
 {
@@ -38,7 +44,13 @@ fn obey(session: Session, config: Config, command: Command, sent: &[u8], flash: 
 }
 
 // Data of 1 to 1,103 bytes, in state 2 or 5.
-fn command_sent(session: Session, config: Config, sent: &[u8], flash: &mut [u8], eeprom: &mut [u8]) -> Answer
+fn command_sent(
+    session: Session,
+    config: Config,
+    sent: &[u8],
+    flash: &mut [u8],
+    eeprom: &mut [u8],
+) -> Answer
     requires { ⌜ Sizes (now flash) (now eeprom) ⌝ }
     ensures { λ r. ⌜ Answered (boardOf session config (now (flash .entry)) (now (eeprom .entry))) (obeyForm (boardOf session config (now (flash .entry)) (now (eeprom .entry))) (form (now (sent .entry))) (now (sent .entry))) r (now (flash .exit)) (now (eeprom .exit)) ⌝ }
 {
@@ -66,8 +78,20 @@ fn end_download(session: Session, config: Config) -> Answer
     let pending = session.pending;
     match pending {
         Pending::Start(kind, address) => match state {
-            3 => quiet(config, Outcome::Started(kind, address), 0, session.status, Pending::Nothing),
-            5 => quiet(config, Outcome::Started(kind, address), 0, session.status, Pending::Nothing),
+            3 => quiet(
+                config,
+                Outcome::Started(kind, address),
+                0,
+                session.status,
+                Pending::Nothing,
+            ),
+            5 => quiet(
+                config,
+                Outcome::Started(kind, address),
+                0,
+                session.status,
+                Pending::Nothing,
+            ),
             _ => stall(session, config),
         },
         Pending::Nothing => ended(session, config),
@@ -78,7 +102,14 @@ fn end_download(session: Session, config: Config) -> Answer
 }
 
 // DNLOAD with wLength n.
-pub fn dnload(session: Session, config: Config, n: u16, sent: &[u8], flash: &mut [u8], eeprom: &mut [u8]) -> Answer
+pub fn dnload(
+    session: Session,
+    config: Config,
+    n: u16,
+    sent: &[u8],
+    flash: &mut [u8],
+    eeprom: &mut [u8],
+) -> Answer
     requires { ⌜ Sizes (now flash) (now eeprom) ⌝ }
     ensures { λ r. ⌜ Answered (boardOf session config (now (flash .entry)) (now (eeprom .entry))) (dnloadOf (boardOf session config (now (flash .entry)) (now (eeprom .entry))) n (now (sent .entry))) r (now (flash .exit)) (now (eeprom .exit)) ⌝ }
 {

@@ -9,6 +9,7 @@ mod refusal;
 mod request;
 mod session;
 mod status;
+mod upload;
 
 pub use answer::Answer;
 pub use answer::Outcome;

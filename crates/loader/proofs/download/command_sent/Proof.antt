@@ -1,6 +1,5 @@
 -- `loader::download::command_sent` meets its contract.
 -- Assumes nothing.
-use mathlib.Core.Path.{_≡_}
 use Rattle.command.specs.Form.{form}
 use Rattle.loader.proofs.DownloadLaws.{is-form, no-form, stalled}
 use borrow.Author.Needs.{needs}

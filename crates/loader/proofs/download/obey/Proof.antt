@@ -1,6 +1,6 @@
 -- `loader::download::obey` meets its contract: the level, the address and the length are asked in the paper's order.
 -- Assumes nothing.
-use mathlib.Core.Path.{_≡_, sym, ap, _∙_}
+use mathlib.Core.Path.{sym, ap, _∙_}
 use Rattle.loader.specs.Levels.{levelStatus}
 use Rattle.loader.proofs.DownloadLaws.{forbidden, wrong-address, wrong-whole, performed}
 use borrow.Author.Needs.{needs}

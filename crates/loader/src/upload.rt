@@ -1,0 +1,153 @@
+// UPLOAD: what is pending goes out, as far as wLength goes.
+ghost use mathlib.Core.Path.{_≡_};
+ghost use mathlib.Core.Bool.{false};
+ghost use Prim.Native.Nat.{_≤_, _<_};
+ghost use lib.ListN.{length};
+ghost use Rattle.loader.specs.Session.{idle};
+ghost use Rattle.loader.specs.Result.{board as boardOf};
+ghost use Rattle.loader.specs.Requests.{restOf, send as sendOf, upload as uploadOf};
+ghost use Rattle.loader.specs.Refusals.{badPending};
+ghost use Rattle.loader.specs.Answered.{bare, Replied, firstOf, Splits, Room, Sendable, sendPending, sentAnswer};
+use crate::answer::Answer;
+use crate::answer::Outcome;
+use crate::session::Pending;
+use crate::session::Session;
+use crate::status::stall;
+use board::Config;
+use board::EepromAddress;
+use board::FlashAddress;
+use board::Level;
+use board::Range;
+
+// Status 00h, a state, what is still pending, and how many bytes are sent.
+fn sent(config: Config, state: u8, pending: Pending, count: usize) -> Answer
+    ensures { λ r. ⌜ r ≡ sentAnswer config state pending count ⌝ }
+{
+    Answer {
+        outcome: Outcome::Done,
+        session: Session {
+            state,
+            status: 0x00,
+            pending,
+        },
+        config,
+        length: count,
+        pages: 0,
+    }
+}
+
+fn first_of(range: Range, n: u16) -> Range
+    requires { ⌜ Splits n range ⌝ }
+    ensures { λ r. ⌜ r ≡ firstOf n range ⌝ }
+{
+    match range {
+        Range::Flash(start, _) => Range::Flash(start, FlashAddress(start.0 + (n - 1))),
+        Range::Eeprom(start, _) => Range::Eeprom(start, EepromAddress(start.0 + (n - 1))),
+    }
+}
+
+fn rest_of(range: Range, n: u16) -> Range
+    requires { ⌜ Splits n range ⌝ }
+    ensures { λ r. ⌜ r ≡ restOf n range ⌝ }
+{
+    match range {
+        Range::Flash(start, end) => Range::Flash(FlashAddress(start.0 + n), end),
+        Range::Eeprom(start, end) => Range::Eeprom(EepromAddress(start.0 + n), end),
+    }
+}
+
+// A memory read: its first bytes where more remains, else all of it.
+fn send_read(
+    config: Config,
+    range: Range,
+    n: u16,
+    flash: &[u8],
+    eeprom: &[u8],
+    reply: &mut [u8],
+) -> Answer
+    requires { ⌜ Sendable n (Pending.MemoryRead range) (now flash) (now eeprom) (now reply) ⌝ }
+    ensures { λ r. ⌜ Replied (sendOf (boardOf idle config (now (flash .entry)) (now (eeprom .entry))) n (Pending.MemoryRead range)) r (now (reply .exit)) (now (reply .entry)) ⌝ }
+{
+    let all = command::range_count(range);
+    if (n as usize) < all {
+        let count = board::read(first_of(range, n), flash, eeprom, reply);
+        return sent(config, 9, Pending::MemoryRead(rest_of(range, n)), count);
+    }
+    let count = board::read(range, flash, eeprom, reply);
+    sent(config, 2, Pending::Nothing, count)
+}
+
+// The two bytes of a blank report, high byte first; after the first alone its low byte is pending.
+fn send_report(config: Config, address: FlashAddress, n: u16, reply: &mut [u8]) -> Answer
+    requires { ⌜ 0 < n ⌝ }
+    requires { ⌜ 1024 ≤ length (now reply) ⌝ }
+    ensures { λ r. ⌜ Replied (sendOf (bare idle config) n (Pending.BlankReport address)) r (now (reply .exit)) (now (reply .entry)) ⌝ }
+{
+    let high = (address.0 / 256) as u8;
+    let low = (address.0 % 256) as u8;
+    if n == 1 {
+        words::lay(reply, 0, &[high]);
+        return sent(config, 9, Pending::OneByte(low), 1);
+    }
+    words::lay(reply, 0, &[high, low]);
+    sent(config, 2, Pending::Nothing, 2)
+}
+
+fn send_byte(config: Config, value: u8, n: u16, reply: &mut [u8]) -> Answer
+    requires { ⌜ 0 < n ⌝ }
+    requires { ⌜ 1024 ≤ length (now reply) ⌝ }
+    ensures { λ r. ⌜ Replied (sendOf (bare idle config) n (Pending.OneByte value)) r (now (reply .exit)) (now (reply .entry)) ⌝ }
+{
+    words::lay(reply, 0, &[value]);
+    sent(config, 2, Pending::Nothing, 1)
+}
+
+// In state 5 or 9, with wLength over 0.
+fn send(
+    session: Session,
+    config: Config,
+    n: u16,
+    flash: &[u8],
+    eeprom: &[u8],
+    reply: &mut [u8],
+) -> Answer
+    requires { ⌜ Sendable n (session .pending) (now flash) (now eeprom) (now reply) ⌝ }
+    ensures { λ r. ⌜ Replied (sendPending (boardOf session config (now (flash .entry)) (now (eeprom .entry))) n) r (now (reply .exit)) (now (reply .entry)) ⌝ }
+{
+    let pending = session.pending;
+    match pending {
+        Pending::Nothing => stall(session, config),
+        Pending::MemoryRead(range) => match board::level_of(config) {
+            Level::L0 => send_read(config, range, n, flash, eeprom, reply),
+            Level::L1 => send_read(config, range, n, flash, eeprom, reply),
+            Level::L2 => stall(session, config),
+        },
+        Pending::BlankReport(address) => send_report(config, address, n, reply),
+        Pending::OneByte(value) => send_byte(config, value, n, reply),
+        Pending::Start(_, _) => stall(session, config),
+    }
+}
+
+// UPLOAD with wLength n.
+pub fn upload(
+    session: Session,
+    config: Config,
+    n: u16,
+    flash: &[u8],
+    eeprom: &[u8],
+    reply: &mut [u8],
+) -> Answer
+    requires { ⌜ Room (now flash) (now eeprom) (now reply) ⌝ }
+    requires { ⌜ badPending (session .pending) ≡ false ⌝ }
+    ensures { λ r. ⌜ Replied (uploadOf (boardOf session config (now (flash .entry)) (now (eeprom .entry))) n) r (now (reply .exit)) (now (reply .entry)) ⌝ }
+{
+    if n == 0 {
+        return stall(session, config);
+    }
+    let state = session.state;
+    match state {
+        5 => send(session, config, n, flash, eeprom, reply),
+        9 => send(session, config, n, flash, eeprom, reply),
+        _ => stall(session, config),
+    }
+}
