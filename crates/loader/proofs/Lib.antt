@@ -1,5 +1,6 @@
 -- The proofs of the statements in specs/: Effects, BenchCases and LevelTwo.
 pub mod StatusLaws
+pub mod StepLaws
 pub mod PerformLaws
 pub mod DownloadLaws
 pub mod UploadLaws

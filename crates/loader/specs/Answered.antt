@@ -36,6 +36,13 @@ pub record Replied (r : Result) (a : Answer) (p p₀ : List ℕ) : Type 0 where
   pub answered : a ≡ answer r
   pub reply : p ≡ replyAfter r p₀
 
+-- all of it: the answer a, the memories f and e, and the reply p, which was p₀, are those of the result r
+pub record Stepped (b : Board) (r : Result) (a : Answer) (f e p p₀ : List ℕ) : Type 0 where
+  pub answered : a ≡ answer r
+  pub flash : f ≡ next b r .flash
+  pub eeprom : e ≡ next b r .eeprom
+  pub reply : p ≡ replyAfter r p₀
+
 -- memories of their sizes
 pub record Sizes (f e : List ℕ) : Type 0 where
   pub flash-size : length f ≡ flashSize

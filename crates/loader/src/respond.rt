@@ -1,0 +1,86 @@
+// One request.
+ghost use mathlib.Core.Path.{_≡_};
+ghost use mathlib.Core.Bool.{false};
+ghost use lib.ListN.{length};
+ghost use Rattle.loader.specs.Result.{board as boardOf, answer, next, replyAfter};
+ghost use Rattle.loader.specs.Requests.{respond as respondOf};
+ghost use Rattle.loader.specs.Refusals.{badPending};
+ghost use Rattle.loader.specs.Step.{ask};
+ghost use Rattle.loader.specs.Answered.{Room, Stepped};
+use crate::answer::Answer;
+use crate::answer::Outcome;
+use crate::download::dnload;
+use crate::refusal::refusal_of;
+use crate::request::Request;
+use crate::request::request_of;
+use crate::session::Session;
+use crate::status::abort;
+use crate::status::clr_status;
+use crate::status::get_state;
+use crate::status::get_status;
+use crate::status::quiet;
+use crate::status::stall;
+use crate::upload::upload;
+use board::Config;
+
+// A request that is not refused.
+fn respond(
+    session: Session,
+    config: Config,
+    request: Request,
+    sent: &[u8],
+    flash: &mut [u8],
+    eeprom: &mut [u8],
+    reply: &mut [u8],
+) -> Answer
+    requires { ⌜ Room (now flash) (now eeprom) (now reply) ⌝ }
+    requires { ⌜ badPending (session .pending) ≡ false ⌝ }
+    ensures { λ r. ⌜ Stepped (boardOf session config (now (flash .entry)) (now (eeprom .entry))) (respondOf (boardOf session config (now (flash .entry)) (now (eeprom .entry))) request (now (sent .entry))) r (now (flash .exit)) (now (eeprom .exit)) (now (reply .exit)) (now (reply .entry)) ⌝ }
+{
+    match request {
+        Request::Dnload(n) => dnload(session, config, n, sent, flash, eeprom),
+        Request::Upload(n) => upload(session, config, n, flash, eeprom, reply),
+        Request::GetStatus => get_status(session, config, reply),
+        Request::GetState => get_state(session, config, reply),
+        Request::ClrStatus => clr_status(session, config),
+        Request::Abort => abort(session, config),
+        Request::Other => stall(session, config),
+    }
+}
+
+// Takes one request of any session, configuration, setup, data, memories and reply buffer. A numbered refusal changes nothing.
+pub fn step(
+    session: Session,
+    config: Config,
+    setup: &[u8],
+    sent: &[u8],
+    flash: &mut [u8],
+    eeprom: &mut [u8],
+    reply: &mut [u8],
+) -> Answer
+    ensures { λ r. ⌜ r ≡ answer (ask (boardOf session config (now (flash .entry)) (now (eeprom .entry))) (now (setup .entry)) (now (sent .entry)) (length (now (reply .entry)))) ⌝ }
+    ensures { λ r. ⌜ now (flash .exit) ≡ next (boardOf session config (now (flash .entry)) (now (eeprom .entry))) (ask (boardOf session config (now (flash .entry)) (now (eeprom .entry))) (now (setup .entry)) (now (sent .entry)) (length (now (reply .entry)))) .flash ⌝ }
+    ensures { λ r. ⌜ now (eeprom .exit) ≡ next (boardOf session config (now (flash .entry)) (now (eeprom .entry))) (ask (boardOf session config (now (flash .entry)) (now (eeprom .entry))) (now (setup .entry)) (now (sent .entry)) (length (now (reply .entry)))) .eeprom ⌝ }
+    ensures { λ r. ⌜ now (reply .exit) ≡ replyAfter (ask (boardOf session config (now (flash .entry)) (now (eeprom .entry))) (now (setup .entry)) (now (sent .entry)) (length (now (reply .entry)))) (now (reply .entry)) ⌝ }
+{
+    let number = refusal_of(session, setup, sent, flash, eeprom, reply);
+    if number != 0 {
+        let pending = session.pending;
+        return quiet(
+            config,
+            Outcome::Refused(number),
+            session.state,
+            session.status,
+            pending,
+        );
+    }
+    respond(
+        session,
+        config,
+        request_of(setup),
+        sent,
+        flash,
+        eeprom,
+        reply,
+    )
+}
