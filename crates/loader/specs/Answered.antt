@@ -43,6 +43,11 @@ pub record Stepped (b : Board) (r : Result) (a : Answer) (f e p p₀ : List ℕ)
   pub eeprom : e ≡ next b r .eeprom
   pub reply : p ≡ replyAfter r p₀
 
+-- the same of a lent session: s is what it holds afterwards
+pub record Handled (b : Board) (r : Result) (a : Answer) (s : Session) (f e p p₀ : List ℕ) : Type 0 where
+  pub stepped : Stepped b r a f e p p₀
+  pub left : s ≡ a .session
+
 -- memories of their sizes
 pub record Sizes (f e : List ℕ) : Type 0 where
   pub flash-size : length f ≡ flashSize

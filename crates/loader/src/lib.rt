@@ -3,6 +3,7 @@
 // No public function has a `requires`: each says what it answers for every input.
 mod answer;
 mod download;
+mod interrupt;
 mod levels;
 mod perform;
 mod refusal;
@@ -14,6 +15,7 @@ mod upload;
 
 pub use answer::Answer;
 pub use answer::Outcome;
+pub use interrupt::handle;
 pub use request::Request;
 pub use request::request_of;
 pub use respond::step;

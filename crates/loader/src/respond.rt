@@ -2,7 +2,7 @@
 ghost use mathlib.Core.Path.{_≡_};
 ghost use mathlib.Core.Bool.{false};
 ghost use lib.ListN.{length};
-ghost use Rattle.loader.specs.Result.{board as boardOf, answer, next, replyAfter};
+ghost use Rattle.loader.specs.Result.{board as boardOf};
 ghost use Rattle.loader.specs.Requests.{respond as respondOf};
 ghost use Rattle.loader.specs.Refusals.{badPending};
 ghost use Rattle.loader.specs.Step.{ask};
@@ -58,10 +58,7 @@ pub fn step(
     eeprom: &mut [u8],
     reply: &mut [u8],
 ) -> Answer
-    ensures { λ r. ⌜ r ≡ answer (ask (boardOf session config (now (flash .entry)) (now (eeprom .entry))) (now (setup .entry)) (now (sent .entry)) (length (now (reply .entry)))) ⌝ }
-    ensures { λ r. ⌜ now (flash .exit) ≡ next (boardOf session config (now (flash .entry)) (now (eeprom .entry))) (ask (boardOf session config (now (flash .entry)) (now (eeprom .entry))) (now (setup .entry)) (now (sent .entry)) (length (now (reply .entry)))) .flash ⌝ }
-    ensures { λ r. ⌜ now (eeprom .exit) ≡ next (boardOf session config (now (flash .entry)) (now (eeprom .entry))) (ask (boardOf session config (now (flash .entry)) (now (eeprom .entry))) (now (setup .entry)) (now (sent .entry)) (length (now (reply .entry)))) .eeprom ⌝ }
-    ensures { λ r. ⌜ now (reply .exit) ≡ replyAfter (ask (boardOf session config (now (flash .entry)) (now (eeprom .entry))) (now (setup .entry)) (now (sent .entry)) (length (now (reply .entry)))) (now (reply .entry)) ⌝ }
+    ensures { λ r. ⌜ Stepped (boardOf session config (now (flash .entry)) (now (eeprom .entry))) (ask (boardOf session config (now (flash .entry)) (now (eeprom .entry))) (now (setup .entry)) (now (sent .entry)) (length (now (reply .entry)))) r (now (flash .exit)) (now (eeprom .exit)) (now (reply .exit)) (now (reply .entry)) ⌝ }
 {
     let number = refusal_of(session, setup, sent, flash, eeprom, reply);
     if number != 0 {
