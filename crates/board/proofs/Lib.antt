@@ -3,3 +3,4 @@ pub mod PagesLaws
 pub mod ProgramLaws
 pub mod BlankLaws
 pub mod ConfigLaws
+pub mod OneAnswer

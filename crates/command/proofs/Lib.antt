@@ -4,3 +4,4 @@ pub mod TransferLaws
 pub mod FormLaws
 pub mod ReaderLaws
 pub mod RoundTripHolds
+pub mod OneAnswer

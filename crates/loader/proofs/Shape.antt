@@ -2,7 +2,7 @@
 -- command does. This is the one walk through the rules: the laws of effects and of level 2 go by its cases.
 -- Assumes nothing.
 use mathlib.Core.Path.{_≡_, refl}
-use mathlib.Core.Bool.{Bool, true, false, not, _&&_, false≢true}
+use mathlib.Core.Bool.{Bool, true, false, _&&_}
 use mathlib.Core.List.{List, [], _∷_}
 use mathlib.Core.Option.{Option, none, some}
 use Prim.Native.Nat.{ℕ}
@@ -23,6 +23,7 @@ use Rattle.loader.specs.Commands.{stall, perform, accept, forbidden, obe
 use Rattle.loader.specs.Requests.{Request, Dnload, Upload, GetStatus, GetState, ClrStatus, Abort, Other, requestOf, startPending, startOf, endPlain, endDownload, mostData, dnload, sendable, send, upload, respond}
 use Rattle.loader.specs.Refusals.{refusal}
 use Rattle.loader.specs.Step.{ask}
+use Rattle.loader.proofs.StepLaws.{unrefused}
 
 -- a command that passed the sizes, the form, the level, the address and the length
 pub record Passed (b : Board) (k : Command) (d : List ℕ) : Type 0 where
@@ -97,22 +98,9 @@ module _ (b : Board) (number : ℕ) (d : List ℕ) (hf : length (b .flash) ≡ f
   of-respond Abort = pick (among (b .session .state) (2 ∷ 3 ∷ 5 ∷ 6 ∷ 9 ∷ [])) (λ x. still _ _ _ refl refl) (λ x. of-stall)
   of-respond Other = of-stall
 
--- a request that is not refused finds the memories of their sizes
-sizes-tested : (t u w : Bool) (x : ℕ) → eqb (if not t then 1 else if not u then 2 else if not w then 3 else x) 0 ≡ true → (u ≡ true) × (w ≡ true)
-sizes-tested true true true x q = (refl, refl)
-sizes-tested true true false x q = absurd (false≢true q)
-sizes-tested true false w x q = absurd (false≢true q)
-sizes-tested false u w x q = absurd (false≢true q)
-
-sizes : (b : Board) (setup d : List ℕ) (n : ℕ) → eqb (refusal b setup d n) 0 ≡ true → (length (b .flash) ≡ flashSize) × (length (b .eeprom) ≡ eepromSize)
-unfolding refusal
-sizes b setup d n q =
-    let h = sizes-tested (eqb (length setup) 8) (eqb (length (b .flash)) flashSize) (eqb (length (b .eeprom)) eepromSize) _ q in
-    (eqb-true _ flashSize (h .0), eqb-true _ eepromSize (h .1))
-
 pub shape : (b : Board) (setup d : List ℕ) (n : ℕ) → Shape b (refusal b setup d n) d (ask b setup d n)
 unfolding ask
 shape b setup d n =
     pick (eqb (refusal b setup d n) 0)
-    (λ x. let h = sizes b setup d n x in of-respond b (refusal b setup d n) d (h .0) (h .1) (requestOf setup))
+    (λ x. let h = unrefused b setup d n (eqb-true _ 0 x) in of-respond b (refusal b setup d n) d (h .flash-size) (h .eeprom-size) (requestOf setup))
     (λ x. refused refl)
