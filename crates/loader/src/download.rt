@@ -31,10 +31,11 @@ fn obey(
 {
     let level = board::level_of(config);
     let status = level_status(command, level);
+    let wrong = command::bad_address(command);
     if status != 0x00 {
         return quiet(config, Outcome::Done, 10, status, Pending::Nothing);
     }
-    if command::bad_address(command) {
+    if wrong {
         return quiet(config, Outcome::Done, 10, 0x08, Pending::Nothing);
     }
     if command::wrong_length(command, sent.len()) {
