@@ -1,4 +1,5 @@
--- The proofs of the statements in specs/: Effects, BenchCases and LevelTwo.
+-- What the proofs of the code share; then the proofs of the statements in specs/: Effects, BenchCases and LevelTwo; then that each
+-- public function has one permitted answer.
 pub mod StatusLaws
 pub mod StepLaws
 pub mod PerformLaws

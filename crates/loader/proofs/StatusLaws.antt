@@ -2,11 +2,11 @@
 -- Assumes nothing.
 use mathlib.Core.Path.{_≡_, sym, ap, _∙_}
 use mathlib.Core.Bool.{Bool, true, false}
-use mathlib.Core.List.{List, [], _++_}
+use mathlib.Core.List.{List, [], _∷_, _++_}
 use Prim.Native.Nat.{ℕ, _+_, _≤_}
 use native.Mathlib.Omega.{arith}
 use lib.ListN.{length, drop}
-use borrow.Author.Tests.{le-leb}
+use borrow.Author.Tests.{le-leb, ne-eqb}
 use Rattle.words.specs.Words.{if_then_else_, among, laid}
 use Rattle.words.proofs.WordsLaws.{overlay-front}
 use Rattle.board.specs.declared.config.Config.{Config}
@@ -20,6 +20,10 @@ use Rattle.loader.specs.Answered.{bare}
 pub reply-laid : (bytes p p′ : List ℕ) → length bytes ≤ length p → p′ ≡ laid 0 bytes p → p′ ≡ bytes ++ drop (length bytes) p
 unfolding laid
 reply-laid bytes p p′ h q = q ∙ rw (le-leb (0 + length bytes) (length p) (omega arith)) (overlay-front bytes p)
+
+-- a state that is neither of two
+pub neither : (n x y : ℕ) → (n ≡ x → ⊥) → (n ≡ y → ⊥) → among n (x ∷ y ∷ []) ≡ false
+neither n x y a b = rw (ne-eqb n x a, ne-eqb n y b)
 
 -- a request that clears in some states
 module _ (states : List ℕ) (s : Session) (c : Config) (a : Answer) where

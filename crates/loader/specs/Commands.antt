@@ -91,7 +91,7 @@ accept k x = record
 abbrev pub forbidden : Board → Command → Bool
 forbidden b k = not (eqb (levelStatus k (level (b .config))) 0x00)
 
--- "Order: form, level, address .. : 08h, and for program at last its whole length.": a command, whose form is right
+-- "Order: form, level, address .. 08h), and for program at last its whole length.": a command, whose form is right
 unfoldable pub obey : Board → Command → List ℕ → Result
 obey b k d =
     if forbidden b k then setStatus b (levelStatus k (level (b .config))) else

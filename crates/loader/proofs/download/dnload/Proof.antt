@@ -1,18 +1,13 @@
 -- `loader::download::dnload` meets its contract: the length, then the state, decides.
 -- Assumes nothing.
-use mathlib.Core.Path.{_≡_, ap}
-use mathlib.Core.Bool.{false}
+use mathlib.Core.Path.{ap}
 use mathlib.Core.List.{[], _∷_}
-use Prim.Native.Nat.{ℕ}
-use borrow.Author.Tests.{ne-eqb}
 use Rattle.words.specs.Words.{among}
+use Rattle.loader.proofs.StatusLaws.{neither}
 use Rattle.loader.proofs.DownloadLaws.{too-long, ending, commanding, elsewhere}
 use borrow.Author.Needs.{needs}
 use Rattle.loader.proofs.download.dnload.Statement.{statement}
 use Rattle.loader.proofs.download.dnload.Tie as tie
-
-neither : (n : ℕ) → (n ≡ 2 → ⊥) → (n ≡ 5 → ⊥) → among n (2 ∷ 5 ∷ []) ≡ false
-neither n a b = rw (ne-eqb n 2 a, ne-eqb n 5 b)
 
 stall-requires : tie.Need-stall-requires
 stall-requires c κs = search needs
@@ -54,7 +49,7 @@ returns-4 : tie.Need-returns-4
 returns-4 c = commanding (c .before .before .before .before .before .before .before .before .before .before .before .before .before .args .session) (c .before .before .before .before .before .before .before .before .before .before .before .before .before .args .config) (c .before .before .before .before .before .before .before .before .before .before .before .before .before .args .flash .now) (c .before .before .before .before .before .before .before .before .before .before .before .before .before .args .eeprom .now) (c .before .before .before .before .before .before .before .before .before .before .before .before .before .args .n) (c .before .before .before .before .before .before .before .before .before .before .before .before .before .args .sent .now) (c .before .before .before .before .before .before .before .before .before .if1 .left) (c .before .before .before .before .before .before .before .before .if2 .left) (ap (λ n. among n (2 ∷ 5 ∷ [])) (c .before .before .before .before .before .before .before .match .keys2)) (c .before .before .before .before .command-sent2 .ensures)
 
 returns-5 : tie.Need-returns-5
-returns-5 c = elsewhere (c .before .before .before .before .before .before .before .args .session) (c .before .before .before .before .before .before .before .args .config) (c .before .before .before .before .before .before .before .args .flash .now) (c .before .before .before .before .before .before .before .args .eeprom .now) (c .before .before .before .before .before .before .before .args .n) (c .before .before .before .before .before .before .before .args .sent .now) (c .before .before .before .if1 .left) (c .before .before .if2 .left) (neither _ (c .before .match .rest .0 .1) (c .before .match .rest .1)) (c .stall2 .ensures)
+returns-5 c = elsewhere (c .before .before .before .before .before .before .before .args .session) (c .before .before .before .before .before .before .before .args .config) (c .before .before .before .before .before .before .before .args .flash .now) (c .before .before .before .before .before .before .before .args .eeprom .now) (c .before .before .before .before .before .before .before .args .n) (c .before .before .before .before .before .before .before .args .sent .now) (c .before .before .before .if1 .left) (c .before .before .if2 .left) (neither _ 2 5 (c .before .match .rest .0 .1) (c .before .match .rest .1)) (c .stall2 .ensures)
 
 pub dnload-spec : {M : Type 1} → statement M
 dnload-spec = tie.close (tie.spec stall-requires returns end-download-requires returns-2 command-sent-requires command-sent-requires-2 stall-requires-2 same-length same-length-2 returns-3 same-length-3 same-length-4 returns-4 returns-5)

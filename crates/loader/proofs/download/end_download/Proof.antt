@@ -1,19 +1,15 @@
 -- `loader::download::end_download` meets its contract: only a pending start is answered with a start.
 -- Assumes nothing.
-use mathlib.Core.Path.{_≡_, ap}
-use mathlib.Core.Bool.{false}
+use mathlib.Core.Path.{ap}
 use mathlib.Core.List.{[], _∷_}
-use Prim.Native.Nat.{ℕ}
 use borrow.Author.Tests.{ne-eqb}
 use Rattle.words.specs.Words.{among}
 use Rattle.loader.specs.Requests.{startPending}
+use Rattle.loader.proofs.StatusLaws.{neither}
 use Rattle.loader.proofs.DownloadLaws.{ends-not, starts, starts-not, no-start}
 use borrow.Author.Needs.{needs}
 use Rattle.loader.proofs.download.end_download.Statement.{statement}
 use Rattle.loader.proofs.download.end_download.Tie as tie
-
-neither : (n : ℕ) → (n ≡ 3 → ⊥) → (n ≡ 5 → ⊥) → among n (3 ∷ 5 ∷ []) ≡ false
-neither n a b = rw (ne-eqb n 3 a, ne-eqb n 5 b)
 
 enum-known-pending : tie.Need-enum-known-pending
 enum-known-pending c = search needs
@@ -58,7 +54,7 @@ returns-2 : tie.Need-returns-2
 returns-2 c = starts (c .before .before .before .before .before .args .session) _ _ _ _ (c .before .before .before .pending .given .1) (ap (λ n. among n (3 ∷ 5 ∷ [])) (c .before .match2 .keys2)) (c .quiet2 .ensures)
 
 returns-3 : tie.Need-returns-3
-returns-3 c = starts-not (c .before .before .before .before .before .args .session) _ _ (neither _ (c .before .match2 .rest .0 .1) (c .before .match2 .rest .1)) (ends-not (c .before .before .before .before .before .args .session) _ _ (ne-eqb _ 5 (c .before .match2 .rest .1)) (c .stall .ensures))
+returns-3 c = starts-not (c .before .before .before .before .before .args .session) _ _ (neither _ 3 5 (c .before .match2 .rest .0 .1) (c .before .match2 .rest .1)) (ends-not (c .before .before .before .before .before .args .session) _ _ (ne-eqb _ 5 (c .before .match2 .rest .1)) (c .stall .ensures))
 
 returns-4 : tie.Need-returns-4
 returns-4 c = no-start (c .before .before .before .args .session) _ _ (ap startPending (c .before .enum-told .given .1)) (c .ended .ensures)

@@ -1,19 +1,15 @@
 -- `loader::upload::upload` meets its contract.
 -- Assumes nothing.
 use mathlib.Core.Path.{_≡_, ap}
-use mathlib.Core.Bool.{false}
 use mathlib.Core.List.{[], _∷_}
 use Prim.Native.Nat.{ℕ, _<_}
 use native.Mathlib.Omega.{arith}
-use borrow.Author.Tests.{ne-eqb}
 use Rattle.words.specs.Words.{among}
+use Rattle.loader.proofs.StatusLaws.{neither}
 use Rattle.loader.proofs.UploadLaws.{no-bytes, elsewhere, uploads}
 use borrow.Author.Needs.{needs}
 use Rattle.loader.proofs.upload.upload.Statement.{statement}
 use Rattle.loader.proofs.upload.upload.Tie as tie
-
-neither : (n : ℕ) → (n ≡ 5 → ⊥) → (n ≡ 9 → ⊥) → among n (5 ∷ 9 ∷ []) ≡ false
-neither n a b = rw (ne-eqb n 5 a, ne-eqb n 9 b)
 
 over-0 : (n : ℕ) → (n ≡ 0 → ⊥) → 0 < n
 over-0 n h = omega arith
@@ -46,7 +42,7 @@ returns-3 : tie.Need-returns-3
 returns-3 c = uploads (c .before .before .before .before .before .before .before .before .before .args .session) (c .before .before .before .before .before .before .before .before .before .args .config) (c .before .before .before .before .before .before .before .before .before .args .flash .now) (c .before .before .before .before .before .before .before .before .before .args .eeprom .now) (c .before .before .before .before .before .before .before .before .before .args .n) (ap (λ n. among n (5 ∷ 9 ∷ [])) (c .before .before .before .before .match .keys2)) (over-0 _ (c .before .before .before .before .before .if1 .left)) (c .before .before .send2 .ensures)
 
 returns-4 : tie.Need-returns-4
-returns-4 c = elsewhere (c .before .before .before .before .before .before .args .session) (c .before .before .before .before .before .before .args .config) (c .before .before .before .before .before .before .args .flash .now) (c .before .before .before .before .before .before .args .eeprom .now) (c .before .before .before .before .before .before .args .n) (c .stall2 .ensures) (neither _ (c .before .match .rest .0 .1) (c .before .match .rest .1))
+returns-4 c = elsewhere (c .before .before .before .before .before .before .args .session) (c .before .before .before .before .before .before .args .config) (c .before .before .before .before .before .before .args .flash .now) (c .before .before .before .before .before .before .args .eeprom .now) (c .before .before .before .before .before .before .args .n) (c .stall2 .ensures) (neither _ 5 9 (c .before .match .rest .0 .1) (c .before .match .rest .1))
 
 pub upload-spec : {M : Type 1} → statement M
 upload-spec = tie.close (tie.spec stall-requires returns send-requires send-requires-2 stall-requires-2 same-length returns-2 same-length-2 returns-3 returns-4)
