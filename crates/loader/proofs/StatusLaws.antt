@@ -1,13 +1,13 @@
 -- What the proofs of the small requests share.
 -- Assumes nothing.
-use mathlib.Core.Path.{_≡_, sym, ap, _∙_}
-use mathlib.Core.Bool.{Bool, true, false}
+use mathlib.Core.Path.{_≡_, _∙_}
+use mathlib.Core.Bool.{true, false}
 use mathlib.Core.List.{List, [], _∷_, _++_}
 use Prim.Native.Nat.{ℕ, _+_, _≤_}
 use native.Mathlib.Omega.{arith}
 use lib.ListN.{length, drop}
 use borrow.Author.Tests.{le-leb, ne-eqb}
-use Rattle.words.specs.Words.{if_then_else_, among, laid}
+use Rattle.words.specs.Words.{among, laid}
 use Rattle.words.proofs.WordsLaws.{overlay-front}
 use Rattle.board.specs.declared.config.Config.{Config}
 use Rattle.loader.specs.Session.{Session, idle}

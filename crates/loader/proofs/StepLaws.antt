@@ -20,7 +20,7 @@ use Rattle.command.specs.Transfer.{badLength}
 use Rattle.command.specs.declared.command.Command.{Command}
 use Rattle.command.proofs.AddressLaws.{or-false}
 use Rattle.loader.specs.Session.{Session}
-use Rattle.loader.specs.Result.{Board, board, Result, reply, Answer, answer, next, replyAfter, Refused}
+use Rattle.loader.specs.Result.{Board, board, Result, reply, Answer, answer, Refused}
 use Rattle.loader.specs.Commands.{stall, forbidden, obey, obeyForm}
 use Rattle.loader.specs.Requests.{Request, Dnload, Upload, GetStatus, GetState, ClrStatus, Abort, Other, requestOf, startPending, endPlain, endDownload, mostData, dnload, sendable, send, upload, getStatus, getState, clrStatus, abort, clearIn, respond}
 use Rattle.loader.specs.Refusals.{knownState, badPending, badSession, badData, replySize, refusal}
