@@ -40,6 +40,20 @@ fn accepted(config: Config, status: u8, pending: Pending, pages: usize) -> Answe
     }
 }
 
+// Status 00h and something pending, or nothing; no page is stored.
+fn leaves(config: Config, pending: Pending) -> Answer
+    ensures { λ r. ⌜ r ≡ acceptedAnswer config 0x00 pending 0 ⌝ }
+{
+    accepted(config, 0x00, pending, 0)
+}
+
+// Status 00h, nothing pending, and the pages that were stored.
+fn stores(config: Config, pages: usize) -> Answer
+    ensures { λ r. ⌜ r ≡ acceptedAnswer config 0x00 Pending.Nothing pages ⌝ }
+{
+    accepted(config, 0x00, Pending::Nothing, pages)
+}
+
 // The byte of an index that can be read.
 fn byte_of(config: Config, index: u8) -> u8
     requires { ⌜ readable index ≡ true ⌝ }
@@ -58,7 +72,7 @@ fn program(config: Config, range: Range, sent: &[u8], flash: &mut [u8], eeprom: 
     let body = command::body_place(range);
     let suffix = body + command::range_count(range);
     let pages = board::program(range, &sent[body..suffix], flash, eeprom);
-    accepted(config, 0x00, Pending::Nothing, pages)
+    stores(config, pages)
 }
 
 // The first byte that is not FFh is reported with 05h.
@@ -84,54 +98,25 @@ pub fn perform(
 {
     match command {
         Command::Program(range) => program(config, range, sent, flash, eeprom),
-        Command::Read(range) => accepted(config, 0x00, Pending::MemoryRead(range), 0),
+        Command::Read(range) => leaves(config, Pending::MemoryRead(range)),
         Command::BlankCheck(start, end) => blank_check(config, start, end, flash),
-        Command::EraseBlock(block) => accepted(
-            config,
-            0x00,
-            Pending::Nothing,
-            board::erase_block(flash, block),
-        ),
+        Command::EraseBlock(block) => stores(config, board::erase_block(flash, block)),
         Command::EraseChip => {
             let pages = board::erase_chip(flash);
-            accepted(
-                board::config_after_erase(config),
-                0x00,
-                Pending::Nothing,
-                pages,
-            )
+            stores(board::config_after_erase(config), pages)
         }
-        Command::WriteByte(index, value) => accepted(
+        Command::WriteByte(index, value) => leaves(
             board::write_byte(config, index, value),
-            0x00,
             Pending::Nothing,
-            0,
         ),
-        Command::WriteHsb(value) => accepted(
-            board::write_hsb(config, value),
-            0x00,
-            Pending::Nothing,
-            0,
-        ),
-        Command::StartReset => accepted(
+        Command::WriteHsb(value) => leaves(board::write_hsb(config, value), Pending::Nothing),
+        Command::StartReset => leaves(
             config,
-            0x00,
             Pending::Start(StartKind::Reset, FlashAddress(0x0000)),
-            0,
         ),
-        Command::StartAt(address) => accepted(
-            config,
-            0x00,
-            Pending::Start(StartKind::AtAddress, address),
-            0,
-        ),
-        Command::ReadVersion => accepted(config, 0x00, Pending::OneByte(VERSION), 0),
-        Command::ReadByte(index) => accepted(
-            config,
-            0x00,
-            Pending::OneByte(byte_of(config, index)),
-            0,
-        ),
-        Command::ReadHsb => accepted(config, 0x00, Pending::OneByte(config.hsb), 0),
+        Command::StartAt(address) => leaves(config, Pending::Start(StartKind::AtAddress, address)),
+        Command::ReadVersion => leaves(config, Pending::OneByte(VERSION)),
+        Command::ReadByte(index) => leaves(config, Pending::OneByte(byte_of(config, index))),
+        Command::ReadHsb => leaves(config, Pending::OneByte(config.hsb)),
     }
 }

@@ -61,8 +61,8 @@ program-requires c κs = subst (λ k. Acceptable k (c .before .before .before .b
 enum-known-command-2 : tie.Need-enum-known-command-2
 enum-known-command-2 c = search needs
 
-accepted-requires : tie.Need-accepted-requires
-accepted-requires c κs = search needs
+leaves-requires : tie.Need-leaves-requires
+leaves-requires c κs = search needs
 
 enum-known-command-3 : tie.Need-enum-known-command-3
 enum-known-command-3 c = search needs
@@ -76,8 +76,8 @@ enum-known-command-4 c = search needs
 erase-block-requires : tie.Need-erase-block-requires
 erase-block-requires c κs = search needs
 
-accepted-requires-2 : tie.Need-accepted-requires-2
-accepted-requires-2 c κs = search needs
+stores-requires : tie.Need-stores-requires
+stores-requires c κs = search needs
 
 enum-told : tie.Need-enum-told
 enum-told c = search needs
@@ -88,8 +88,8 @@ erase-chip-requires c κs = search needs
 config-after-erase-requires : tie.Need-config-after-erase-requires
 config-after-erase-requires c κs = search needs
 
-accepted-requires-3 : tie.Need-accepted-requires-3
-accepted-requires-3 c κs = search needs
+stores-requires-2 : tie.Need-stores-requires-2
+stores-requires-2 c κs = search needs
 
 enum-known-command-5 : tie.Need-enum-known-command-5
 enum-known-command-5 c = search needs
@@ -97,8 +97,8 @@ enum-known-command-5 c = search needs
 write-byte-requires : tie.Need-write-byte-requires
 write-byte-requires c κs = search needs
 
-accepted-requires-4 : tie.Need-accepted-requires-4
-accepted-requires-4 c κs = search needs
+leaves-requires-2 : tie.Need-leaves-requires-2
+leaves-requires-2 c κs = search needs
 
 enum-known-command-6 : tie.Need-enum-known-command-6
 enum-known-command-6 c = search needs
@@ -106,26 +106,26 @@ enum-known-command-6 c = search needs
 write-hsb-requires : tie.Need-write-hsb-requires
 write-hsb-requires c κs = search needs
 
-accepted-requires-5 : tie.Need-accepted-requires-5
-accepted-requires-5 c κs = search needs
+leaves-requires-3 : tie.Need-leaves-requires-3
+leaves-requires-3 c κs = search needs
 
 enum-told-2 : tie.Need-enum-told-2
 enum-told-2 c = search needs
 
-accepted-requires-6 : tie.Need-accepted-requires-6
-accepted-requires-6 c κs = search needs
+leaves-requires-4 : tie.Need-leaves-requires-4
+leaves-requires-4 c κs = search needs
 
 enum-known-command-7 : tie.Need-enum-known-command-7
 enum-known-command-7 c = search needs
 
-accepted-requires-7 : tie.Need-accepted-requires-7
-accepted-requires-7 c κs = search needs
+leaves-requires-5 : tie.Need-leaves-requires-5
+leaves-requires-5 c κs = search needs
 
 enum-told-3 : tie.Need-enum-told-3
 enum-told-3 c = search needs
 
-accepted-requires-8 : tie.Need-accepted-requires-8
-accepted-requires-8 c κs = search needs
+leaves-requires-6 : tie.Need-leaves-requires-6
+leaves-requires-6 c κs = search needs
 
 enum-known-command-8 : tie.Need-enum-known-command-8
 enum-known-command-8 c = search needs
@@ -133,14 +133,14 @@ enum-known-command-8 c = search needs
 byte-of-requires : tie.Need-byte-of-requires
 byte-of-requires c κs = form-readable _ _ (c .before .before .before .before .before .before .pre .formed ∙ ap some (c .before .command8 .given .1))
 
-accepted-requires-9 : tie.Need-accepted-requires-9
-accepted-requires-9 c κs = search needs
+leaves-requires-7 : tie.Need-leaves-requires-7
+leaves-requires-7 c κs = search needs
 
 enum-told-4 : tie.Need-enum-told-4
 enum-told-4 c = search needs
 
-accepted-requires-10 : tie.Need-accepted-requires-10
-accepted-requires-10 c κs = search needs
+leaves-requires-8 : tie.Need-leaves-requires-8
+leaves-requires-8 c κs = search needs
 
 same-length : tie.Need-same-length
 same-length c = search needs
@@ -153,7 +153,7 @@ returns c = rw (c .before .before .before .before .before .before .before .befor
 
 returns-2 : tie.Need-returns-2
 unfolding perform
-returns-2 c = rw (c .before .before .command2 .given .1) (record { answered = c .accepted .ensures; flash = refl; eeprom = refl })
+returns-2 c = rw (c .before .before .command2 .given .1) (record { answered = c .leaves .ensures; flash = refl; eeprom = refl })
 
 same-length-3 : tie.Need-same-length-3
 same-length-3 c = search needs
@@ -165,41 +165,41 @@ same-length-4 : tie.Need-same-length-4
 same-length-4 c = search needs
 
 returns-4 : tie.Need-returns-4
-returns-4 c = rw (c .before .before .before .before .before .before .command4 .given .1) (block-erased _ _ _ _ _ _ _ (c .before .before .before .before .before .before .before .before .before .before .before .pre .sizes .flash-size) (c .before .before .before .erase-block .ensures .0) (c .before .before .before .erase-block .ensures .1) (c .accepted2 .ensures))
+returns-4 c = rw (c .before .before .before .before .before .before .command4 .given .1) (block-erased _ _ _ _ _ _ _ (c .before .before .before .before .before .before .before .before .before .before .before .pre .sizes .flash-size) (c .before .before .before .erase-block .ensures .0) (c .before .before .before .erase-block .ensures .1) (c .stores .ensures))
 
 same-length-5 : tie.Need-same-length-5
 same-length-5 c = search needs
 
 returns-5 : tie.Need-returns-5
-returns-5 c = rw (c .before .before .before .before .before .before .enum-told .given .1) (chip-erased _ _ _ _ _ _ _ (c .before .before .before .before .before .before .before .before .before .before .before .pre .sizes .flash-size) (c .before .config-after-erase .ensures) (c .before .before .before .before .erase-chip .ensures .0) (c .before .before .before .before .erase-chip .ensures .1) (c .accepted3 .ensures))
+returns-5 c = rw (c .before .before .before .before .before .before .enum-told .given .1) (chip-erased _ _ _ _ _ _ _ (c .before .before .before .before .before .before .before .before .before .before .before .pre .sizes .flash-size) (c .before .config-after-erase .ensures) (c .before .before .before .before .erase-chip .ensures .0) (c .before .before .before .before .erase-chip .ensures .1) (c .stores2 .ensures))
 
 returns-6 : tie.Need-returns-6
 unfolding perform
-returns-6 c = rw (c .before .before .before .command5 .given .1) (record { answered = c .accepted4 .ensures ∙ ap (λ x. acceptedAnswer x 0x00 Nothing 0) (c .before .write-byte .ensures); flash = refl; eeprom = refl })
+returns-6 c = rw (c .before .before .before .command5 .given .1) (record { answered = c .leaves2 .ensures ∙ ap (λ x. acceptedAnswer x 0x00 Nothing 0) (c .before .write-byte .ensures); flash = refl; eeprom = refl })
 
 returns-7 : tie.Need-returns-7
 unfolding perform
-returns-7 c = rw (c .before .before .before .command6 .given .1) (record { answered = c .accepted5 .ensures ∙ ap (λ x. acceptedAnswer x 0x00 Nothing 0) (c .before .write-hsb .ensures); flash = refl; eeprom = refl })
+returns-7 c = rw (c .before .before .before .command6 .given .1) (record { answered = c .leaves3 .ensures ∙ ap (λ x. acceptedAnswer x 0x00 Nothing 0) (c .before .write-hsb .ensures); flash = refl; eeprom = refl })
 
 returns-8 : tie.Need-returns-8
 unfolding perform
-returns-8 c = rw (c .before .enum-told2 .given .1) (record { answered = c .accepted6 .ensures; flash = refl; eeprom = refl })
+returns-8 c = rw (c .before .enum-told2 .given .1) (record { answered = c .leaves4 .ensures; flash = refl; eeprom = refl })
 
 returns-9 : tie.Need-returns-9
 unfolding perform
-returns-9 c = rw (c .before .before .command7 .given .1) (record { answered = c .accepted7 .ensures; flash = refl; eeprom = refl })
+returns-9 c = rw (c .before .before .command7 .given .1) (record { answered = c .leaves5 .ensures; flash = refl; eeprom = refl })
 
 returns-10 : tie.Need-returns-10
 unfolding perform
-returns-10 c = rw (c .before .enum-told3 .given .1) (record { answered = c .accepted8 .ensures; flash = refl; eeprom = refl })
+returns-10 c = rw (c .before .enum-told3 .given .1) (record { answered = c .leaves6 .ensures; flash = refl; eeprom = refl })
 
 returns-11 : tie.Need-returns-11
 unfolding perform
-returns-11 c = rw (c .before .before .before .command8 .given .1) (record { answered = c .accepted9 .ensures ∙ ap (λ x. acceptedAnswer (c .before .before .before .before .before .before .before .before .args .config) 0x00 (OneByte x) 0) (c .before .byte-of .ensures); flash = refl; eeprom = refl })
+returns-11 c = rw (c .before .before .before .command8 .given .1) (record { answered = c .leaves7 .ensures ∙ ap (λ x. acceptedAnswer (c .before .before .before .before .before .before .before .before .args .config) 0x00 (OneByte x) 0) (c .before .byte-of .ensures); flash = refl; eeprom = refl })
 
 returns-12 : tie.Need-returns-12
 unfolding perform
-returns-12 c = rw (c .before .enum-told4 .given .1) (record { answered = c .accepted10 .ensures; flash = refl; eeprom = refl })
+returns-12 c = rw (c .before .enum-told4 .given .1) (record { answered = c .leaves8 .ensures; flash = refl; eeprom = refl })
 
 pub perform-spec : {M : Type 1} → statement M
-perform-spec = tie.close (tie.spec enum-known-command program-requires enum-known-command-2 accepted-requires enum-known-command-3 blank-check-requires enum-known-command-4 erase-block-requires accepted-requires-2 enum-told erase-chip-requires config-after-erase-requires accepted-requires-3 enum-known-command-5 write-byte-requires accepted-requires-4 enum-known-command-6 write-hsb-requires accepted-requires-5 enum-told-2 accepted-requires-6 enum-known-command-7 accepted-requires-7 enum-told-3 accepted-requires-8 enum-known-command-8 byte-of-requires accepted-requires-9 enum-told-4 accepted-requires-10 same-length same-length-2 returns returns-2 same-length-3 returns-3 same-length-4 returns-4 same-length-5 returns-5 returns-6 returns-7 returns-8 returns-9 returns-10 returns-11 returns-12)
+perform-spec = tie.close (tie.spec enum-known-command program-requires enum-known-command-2 leaves-requires enum-known-command-3 blank-check-requires enum-known-command-4 erase-block-requires stores-requires enum-told erase-chip-requires config-after-erase-requires stores-requires-2 enum-known-command-5 write-byte-requires leaves-requires-2 enum-known-command-6 write-hsb-requires leaves-requires-3 enum-told-2 leaves-requires-4 enum-known-command-7 leaves-requires-5 enum-told-3 leaves-requires-6 enum-known-command-8 byte-of-requires leaves-requires-7 enum-told-4 leaves-requires-8 same-length same-length-2 returns returns-2 same-length-3 returns-3 same-length-4 returns-4 same-length-5 returns-5 returns-6 returns-7 returns-8 returns-9 returns-10 returns-11 returns-12)

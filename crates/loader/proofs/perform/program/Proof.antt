@@ -27,8 +27,8 @@ part-program-end c = body-inside _ _ _ _ _ _ (c .before .before .before .before 
 program-requires : tie.Need-program-requires
 program-requires c κs = search needs
 
-accepted-requires : tie.Need-accepted-requires
-accepted-requires c κs = search needs
+stores-requires : tie.Need-stores-requires
+stores-requires c κs = search needs
 
 same-length : tie.Need-same-length
 same-length c = search needs
@@ -37,7 +37,7 @@ same-length-2 : tie.Need-same-length-2
 same-length-2 c = search needs
 
 returns : tie.Need-returns
-returns c = programs _ _ _ _ _ _ _ _ _ _ (c .before .before .before .before .before .before .before .before .before .before .before .before .before .before .pre) (body-piece (c .before .before .before .before .before .before .before .before .before .before .before .before .before .before .args .range) (c .before .before .before .before .before .before .before .before .before .before .before .before .before .before .args .sent .now) _ _ (c .before .before .before .before .before .before .before .before .before .before .body-place .ensures) (c .before .before .before .before .before .before .before .before .before .range-count .ensures .0)) (c .before .before .before .before .before .program .ensures .0) (c .before .before .before .before .before .program .ensures .1 .0) (c .before .before .before .before .before .program .ensures .1 .1) (c .accepted .ensures)
+returns c = programs _ _ _ _ _ _ _ _ _ _ (c .before .before .before .before .before .before .before .before .before .before .before .before .before .before .pre) (body-piece (c .before .before .before .before .before .before .before .before .before .before .before .before .before .before .args .range) (c .before .before .before .before .before .before .before .before .before .before .before .before .before .before .args .sent .now) _ _ (c .before .before .before .before .before .before .before .before .before .before .body-place .ensures) (c .before .before .before .before .before .before .before .before .before .range-count .ensures .0)) (c .before .before .before .before .before .program .ensures .0) (c .before .before .before .before .before .program .ensures .1 .0) (c .before .before .before .before .before .program .ensures .1 .1) (c .stores .ensures)
 
 pub program-spec : {M : Type 1} → statement M
-program-spec = tie.close (tie.spec body-place-requires range-count-requires add-suffix sub-program part-program-start part-program-end program-requires accepted-requires same-length same-length-2 returns)
+program-spec = tie.close (tie.spec body-place-requires range-count-requires add-suffix sub-program part-program-start part-program-end program-requires stores-requires same-length same-length-2 returns)
