@@ -2,17 +2,17 @@
 -- were laid over it; `storeAll-pagesFrom` says it of the first n of them.
 -- Assumes nothing.
 use mathlib.Core.Path.{_≡_, refl, sym, ap, _∙_}
-use mathlib.Core.List.{List, [], _∷_, _++_, append-assoc}
-use Prim.Native.Nat.{ℕ, zero, suc, _+_, _-_, _*_, _/_, _≤_, _<_}
+use mathlib.Core.List.{List, _++_, append-assoc}
+use Prim.Native.Nat.{ℕ, zero, suc, _+_, _*_, _≤_, _<_}
 use native.Mathlib.Omega.{arith}
 use native.Mathlib.Nat.{add-zero, zero-add}
 use lib.Dec.{lit<, lit≤}
-use lib.ListN.{length, take, drop, replicate, length-append, length-drop, length-replicate, take-append-drop, drop-of-length-le}
+use lib.ListN.{length, take, drop, length-append, length-drop, length-replicate, take-append-drop, drop-of-length-le}
 use lib.Seq.{take-append-le, take-take, length-take-le, take-add, take-at}
 use borrow.Author.Tests.{le-leb}
 use Rattle.words.specs.Words.{count, overlay, Programmed}
 use Rattle.board.specs.Memory.{Page, page, pageSize, flashSize, flashPages, blankFlash}
-use Rattle.board.specs.Pages.{Block, Low, Middle, High, Store, store, storeAll, pageStore, pageOf, pagesFrom, firstPage, pagesMet, programStores, blockStart, blockEnd, blockFF, blockStores, chipStores}
+use Rattle.board.specs.Pages.{Block, Low, Middle, High, store, storeAll, pageStore, pageOf, pagesFrom, firstPage, pagesMet, programStores, blockStart, blockEnd, blockFF, blockStores, chipStores}
 use Rattle.words.proofs.WordsLaws.{drop-past, length-front, length-overlay, overlay-part, overlay-programmed}
 
 -- ---- the list of stores

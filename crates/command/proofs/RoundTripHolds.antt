@@ -3,29 +3,27 @@
 use mathlib.Core.Path.{_≡_, refl, sym, ap, _∙_, subst}
 use mathlib.Core.Bool.{Bool, true, false, not, _||_}
 use mathlib.Core.List.{List, [], _∷_, _++_, append-assoc, append-nil}
-use mathlib.Core.Option.{none, some}
+use mathlib.Core.Option.{some}
 use Prim.Native.Nat.{ℕ, zero, suc, _+_, _-_, _*_, _/_, _%_, _≤_, _<_}
-use native.Mathlib.Nat.{le-antisymm}
 use native.Mathlib.Omega.{arith}
-use lib.Dec.{T, eqb, leb, ltb, ltb→lt}
-use lib.ListN.{length, take, drop, getD, replicate, length-append, length-replicate, length-drop, getD-replicate, take-append-drop}
-use lib.Seq.{take-at, drop-at, take-all, take-length, drop-length, drop-cons, drop-drop, length-take-le, take-add, ext-getD, getD-take, getD-drop}
-use borrow.Author.Tests.{eqb-true, eq-eqb, le-leb, le-ltb, ltb-false, not-false}
+use lib.Dec.{T, eqb, ltb, ltb→lt}
+use lib.ListN.{length, take, drop, length-append, length-replicate, length-drop, take-append-drop}
+use lib.Seq.{take-at, drop-at, take-length, drop-length, drop-cons, length-take-le, take-add}
+use borrow.Author.Tests.{eqb-true, eq-eqb, le-leb, le-ltb, not-false}
 use Rattle.words.specs.Words.{if_then_else_, byteAt, highFirst, overlay}
 use Rattle.words.proofs.WordsLaws.{overlay-front}
-use Rattle.board.specs.Memory.{rangeStart, rangeEnd, rangeCount, flashAddress, eepromAddress}
+use Rattle.board.specs.Memory.{rangeStart, rangeCount}
 use Rattle.board.specs.Config.{readable, writable}
 use Rattle.board.specs.declared.address.Range.{Range}
 use Rattle.board.specs.declared.address.Range.the-variants.{Flash, Eeprom}
-use Rattle.board.specs.declared.address.Block.{Block}
 use Rattle.board.specs.declared.address.Block.the-variants.{Low, Middle, High}
 use Rattle.command.specs.Form.{Command, Program, Read, BlankCheck, EraseBlock, EraseChip, WriteByte, WriteHsb, StartReset, StartAt, ReadVersion, ReadByte, ReadHsb, form}
 use Rattle.command.specs.Address.{badAddress}
 use Rattle.command.specs.Transfer.{bodyPlace, suffixPlace, transferLength, fillerSize, suffixSize, padding, badLength, bodyOf, suffixOf}
-use Rattle.command.specs.Reader.{Taken, partsOf, readCommand}
-use Rattle.command.specs.Writer.{Written, Wrote, Unwritten, zeros, noTail, tailFor, headBytes, commandBytes, badWrite, cannotWrite, putAnswer, putRoom, writeCommand, roomAfter}
-use Rattle.command.specs.RoundTrip.{bodyAt, suffixAt, carried, ReadsAs, ReadsBack, ZeroFilled, Bytes, WritesAs, WritesBack}
-use Rattle.command.proofs.AddressLaws.{or-false, Good, badRange-good}
+use Rattle.command.specs.Reader.{partsOf}
+use Rattle.command.specs.Writer.{Wrote, Unwritten, zeros, noTail, tailFor, headBytes, commandBytes, badWrite, cannotWrite, putAnswer, putRoom, writeCommand, roomAfter}
+use Rattle.command.specs.RoundTrip.{bodyAt, suffixAt, carried, ReadsAs, ReadsBack, ZeroFilled, Bytes, WritesBack}
+use Rattle.command.proofs.AddressLaws.{or-false}
 use Rattle.command.proofs.FormLaws.{Formed, formed, program-flash, program-eeprom, read-flash, read-eeprom, blank-check, erase-block, erase-chip, write-byte, write-hsb, start-reset, start-at, read-version, read-byte, read-hsb}
 use Rattle.command.proofs.ReaderLaws.{Passed, passed, taken}
 

@@ -3,7 +3,7 @@
 use mathlib.Core.Path.{_≡_}
 use mathlib.Core.Bool.{false}
 use mathlib.Core.List.{List}
-use Prim.Native.Nat.{ℕ, _+_, _≤_}
+use Prim.Native.Nat.{ℕ, _≤_}
 use native.Mathlib.Omega.{arith}
 use lib.ListN.{length, drop, length-drop}
 use lib.Seq.{length-take-le}
@@ -11,7 +11,6 @@ use borrow.Author.Tests.{eqb-true, not-false}
 use Rattle.board.specs.declared.address.Range.{Range}
 use Rattle.board.specs.Memory.{rangeCount}
 use Rattle.command.specs.Form.{Program}
-use Rattle.command.specs.Address.{badRange}
 use Rattle.command.specs.Transfer.{transferLength, bodyPlace, bodyOf, badLength}
 use Rattle.command.proofs.AddressLaws.{Good}
 

@@ -2,8 +2,8 @@
 ghost use mathlib.Core.Path.{_≡_};
 ghost use Prim.Native.Nat.{_≤_};
 ghost use Rattle.words.specs.Words.{count};
-ghost use Rattle.board.specs.Memory.{rangeStart, rangeCount};
-ghost use Rattle.command.specs.Transfer.{bodyPlace, transferLength, wrongLength};
+ghost use Rattle.board.specs.Memory.{rangeCount};
+ghost use Rattle.command.specs.Transfer.{bodyPlace, wrongLength};
 use crate::COMMAND_SIZE;
 use crate::SUFFIX_SIZE;
 use crate::command::Command;

@@ -1,9 +1,7 @@
 // The host's command writer.
 ghost use mathlib.Core.Path.{_≡_};
-ghost use mathlib.Core.List.{_++_};
-ghost use Prim.Native.Nat.{_≤_, _/_, _%_};
-ghost use lib.ListN.{length, take};
-ghost use Rattle.command.specs.Writer.{Put, HeadOf, headed, programSelector, readSelector, rangeHead, blockCode, tailFor, badWrite, putBytes, putAnswer, putRoom, writeCommand, roomAfter};
+ghost use Prim.Native.Nat.{_/_, _%_};
+ghost use Rattle.command.specs.Writer.{Put, HeadOf, headed, rangeHead, blockCode, tailFor, badWrite, putBytes, putAnswer, putRoom, writeCommand, roomAfter};
 use crate::SUFFIX_SIZE;
 use crate::check::bad_address;
 use crate::command::Command;

@@ -1,14 +1,14 @@
 -- The table of specs/BenchCases.antt holds.
 -- Assumes nothing.
 use mathlib.Core.Path.{_≡_, refl, sym, ap, _∙_, subst}
-use mathlib.Core.Bool.{Bool, true, false}
+use mathlib.Core.Bool.{false}
 use mathlib.Core.List.{List, [], _∷_, _++_, append-assoc}
-use mathlib.Core.Option.{Option, none, some}
-use Prim.Native.Nat.{ℕ, _+_, _-_, _*_, _/_, _%_, _≤_, _<_}
+use mathlib.Core.Option.{some}
+use Prim.Native.Nat.{ℕ, _+_, _*_, _/_, _%_, _≤_, _<_}
 use native.Mathlib.Nat.{le-antisymm}
 use native.Mathlib.Omega.{arith}
 use lib.Dec.{T, lit<, lit≤, leb→le, ltb→lt, leb, ltb}
-use lib.ListN.{length, take, drop, getD, length-append}
+use lib.ListN.{length, take, drop, length-append}
 use lib.Seq.{take-at, drop-at}
 use borrow.Author.Tests.{le-ltb, lt-leb, le-leb, eq-eqb}
 use Rattle.words.specs.Words.{count, Programmed}
@@ -18,19 +18,18 @@ use Rattle.board.specs.Blank.{usedIn}
 use Rattle.board.specs.Config.{erasedConfig}
 use Rattle.board.specs.Level.{level}
 use Rattle.board.specs.declared.address.Range.{Range}
-use Rattle.board.specs.declared.address.Range.the-variants.{Flash, Eeprom}
+use Rattle.board.specs.declared.address.Range.the-variants.{Flash}
 use Rattle.board.specs.declared.config.Config.{Config}
 use Rattle.board.specs.declared.level.Level.{Level}
-use Rattle.board.specs.declared.level.Level.the-variants.{L0, L1, L2}
+use Rattle.board.specs.declared.level.Level.the-variants.{L0, L2}
 use Rattle.board.proofs.PagesLaws.{programStores-programmed, length-programStores, storeAll-chipStores, length-chipStores}
 use Rattle.board.proofs.BlankLaws.{usedIn-whole}
 use Rattle.command.specs.Form.{form}
 use Rattle.command.specs.Address.{badRange, mostBytes}
-use Rattle.command.specs.Transfer.{padding, bodyPlace, bodyOf, transferLength}
-use Rattle.command.specs.declared.command.Command.{Command}
+use Rattle.command.specs.Transfer.{bodyPlace, bodyOf, transferLength}
 use Rattle.command.specs.declared.command.Command.the-variants.{Program, BlankCheck, EraseChip}
 use Rattle.loader.specs.Session.{Session, session, idle, BlankReport}
-use Rattle.loader.specs.Result.{Board, board, Result, reply, next, Done}
+use Rattle.loader.specs.Result.{Board, board, reply, next, Done}
 use Rattle.loader.specs.Commands.{stall, perform, obey, obeyForm, accept, blankEffect, stores, program}
 use Rattle.loader.specs.Requests.{mostData, requestOf, respond, upload, send, getStatus}
 use Rattle.loader.specs.Refusals.{refusal, replySize}

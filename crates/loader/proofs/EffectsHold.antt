@@ -4,13 +4,11 @@ use mathlib.Core.Path.{_≡_, refl, sym, ap, _∙_, subst}
 use mathlib.Core.Bool.{Bool, true, false, not, false≢true}
 use mathlib.Core.List.{List, [], _∷_}
 use mathlib.Core.Option.{Option, none, some}
-use Prim.Native.Nat.{ℕ, _≤_}
+use Prim.Native.Nat.{ℕ}
 use native.Mathlib.Omega.{arith}
 use lib.Dec.{eqb, ltb}
-use lib.ListN.{length}
 use borrow.Author.Tests.{ne-eqb, le-ltb}
 use Rattle.board.specs.Memory.{flashPages}
-use Rattle.board.specs.Pages.{programStores}
 use Rattle.words.specs.Words.{if_then_else_, among}
 use Rattle.board.specs.Blank.{usedIn}
 use Rattle.board.specs.Level.{level}
@@ -30,7 +28,7 @@ use Rattle.command.specs.declared.command.Command.the-variants.{Program, Read, 
 use Rattle.command.proofs.AddressLaws.{Good, badRange-good}
 use Rattle.command.proofs.TransferLaws.{length-bodyOf}
 use Rattle.command.proofs.ReaderLaws.{passed, taken}
-use Rattle.loader.specs.Result.{Board, Result, reply, Outcome, Stall, Refused}
+use Rattle.loader.specs.Result.{Board, Result, Stall, Refused}
 use Rattle.loader.specs.Levels.{levelStatus}
 use Rattle.loader.specs.Commands.{stall, setStatus, perform, accept, blankEffect, forbidden, obey, obeyForm}
 use Rattle.loader.specs.Requests.{requestOf, Request, Dnload, Upload, GetStatus, GetState, ClrStatus, Abort, Other, mostData, respond, dnload, endPlain, endDownload, upload}

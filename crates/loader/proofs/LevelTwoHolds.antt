@@ -35,7 +35,7 @@ use Rattle.loader.specs.Requests.{Request, Dnload, Upload, GetStatus, Ge
 use Rattle.loader.specs.Refusals.{refusal}
 use Rattle.loader.specs.Step.{Event, Ask, PowerUp, ask, step, Report, reports, lastSent}
 use Rattle.loader.specs.BenchCases.{Ready, Unnamed, download, askStatus}
-use Rattle.loader.specs.LevelTwo.{SameBlank, Alike, isChipErase, upToErase, KeptSecret, KeptSecretEver, Sized, probe, ToldApart}
+use Rattle.loader.specs.LevelTwo.{SameBlank, isChipErase, upToErase, KeptSecret, KeptSecretEver, probe, ToldApart}
 use Rattle.loader.proofs.Shape.{Passed, Shape, refused, still, did, shape}
 use Rattle.loader.proofs.Ready.{commanded, statusOf}
 

@@ -1,6 +1,6 @@
 -- What the board's operations do to memories of their sizes is what `perform` says.
 -- Assumes nothing.
-use mathlib.Core.Path.{_≡_, refl, sym, ap, _∙_}
+use mathlib.Core.Path.{_≡_, refl, ap, _∙_}
 use mathlib.Core.List.{List, []}
 use mathlib.Core.Option.{Option, none, some}
 use Prim.Native.Nat.{ℕ, _+_, _-_, _≤_}
@@ -25,7 +25,7 @@ use Rattle.command.proofs.AddressLaws.{Good, badRange-good}
 use Rattle.command.proofs.TransferLaws.{length-bodyOf}
 use Rattle.loader.specs.Session.{idle, Nothing}
 use Rattle.loader.specs.Result.{Answer, board}
-use Rattle.loader.specs.Commands.{Effect, blankEffect, perform, accept}
+use Rattle.loader.specs.Commands.{blankEffect, perform, accept}
 use Rattle.loader.specs.Answered.{Answered, Acceptable, acceptedAnswer}
 
 -- a blank check stores nothing

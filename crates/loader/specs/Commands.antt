@@ -13,12 +13,11 @@ use Rattle.board.specs.Level.{level}
 use Rattle.board.specs.declared.address.Range.{Range}
 use Rattle.board.specs.declared.address.Range.the-variants.{Flash, Eeprom}
 use Rattle.board.specs.declared.config.Config.{Config}
-use Rattle.command.specs.Form.{form}
 use Rattle.command.specs.Address.{badAddress}
 use Rattle.command.specs.Transfer.{bodyOf, badLength}
 use Rattle.command.specs.declared.command.Command.{Command}
 use Rattle.command.specs.declared.command.Command.the-variants.{Program, Read, BlankCheck, EraseBlock, EraseChip, WriteByte, WriteHsb, StartReset, StartAt, ReadVersion, ReadByte, ReadHsb}
-use Rattle.loader.specs.Session.{Session, session, Pending, Nothing, MemoryRead, BlankReport, OneByte, Start, Reset, AtAddress}
+use Rattle.loader.specs.Session.{session, Pending, Nothing, MemoryRead, BlankReport, OneByte, Start, Reset, AtAddress}
 use Rattle.loader.specs.Levels.{levelStatus}
 use Rattle.loader.specs.Result.{Board, Patch, Result, reply, Done, Stall}
 

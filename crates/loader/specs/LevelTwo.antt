@@ -14,7 +14,7 @@ use Rattle.board.specs.Level.{level}
 use Rattle.board.specs.declared.level.Level.the-variants.{L2}
 use Rattle.command.specs.declared.command.Command.{Command}
 use Rattle.command.specs.declared.command.Command.the-variants.{Program, Read, BlankCheck, EraseBlock, EraseChip, WriteByte, WriteHsb, StartReset, StartAt, ReadVersion, ReadByte, ReadHsb}
-use Rattle.loader.specs.Result.{Board, Result, next}
+use Rattle.loader.specs.Result.{Board, next}
 use Rattle.loader.specs.Step.{Event, PowerUp, step, reports, lastSent}
 use Rattle.loader.specs.BenchCases.{Unnamed, download, askStatus}
 

@@ -3,7 +3,7 @@ use mathlib.Core.Bool.{Bool, true, false, _&&_}
 use mathlib.Core.List.{List, [], _∷_}
 use Prim.Native.Nat.{ℕ, _+_, _/_, _%_}
 use lib.Dec.{eqb, ltb}
-use lib.ListN.{length, take}
+use lib.ListN.{take}
 use Rattle.words.specs.Words.{if_then_else_, among, highFirst, lowFirst, part}
 use Rattle.board.specs.Memory.{flashAddress, eepromAddress, rangeCount}
 use Rattle.board.specs.Level.{level}
@@ -12,7 +12,7 @@ use Rattle.board.specs.declared.address.Range.the-variants.{Flash, Eeprom}
 use Rattle.board.specs.declared.level.Level.{Level}
 use Rattle.board.specs.declared.level.Level.the-variants.{L0, L1, L2}
 use Rattle.command.specs.Form.{form}
-use Rattle.loader.specs.Session.{Session, session, idle, Pending, Nothing, MemoryRead, BlankReport, OneByte, Start}
+use Rattle.loader.specs.Session.{session, idle, Pending, Nothing, MemoryRead, BlankReport, OneByte, Start}
 use Rattle.loader.specs.Result.{Board, Result, reply, Outcome, Done, Started}
 use Rattle.loader.specs.Commands.{stall, obeyForm}
 pub use Rattle.loader.specs.declared.request.Request.{Request}

@@ -1,7 +1,6 @@
 // The numbered refusals of a request, 1 to 7.
 ghost use mathlib.Core.Path.{_≡_};
 ghost use lib.ListN.{length};
-ghost use mathlib.Core.Bool.{not};
 ghost use Rattle.board.specs.Config.{deliveredConfig};
 ghost use Rattle.loader.specs.Result.{board};
 ghost use Rattle.loader.specs.Refusals.{knownState, badPending, badSession, badData, refusal};

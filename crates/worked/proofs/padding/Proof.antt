@@ -9,26 +9,11 @@ use borrow.Author.Needs.{needs}
 use Rattle.worked.proofs.padding.Statement.{statement}
 use Rattle.worked.proofs.padding.Tie as tie
 
-flash-requires : tie.Need-flash-requires
-flash-requires c κs = search needs
-
-body-place-requires : tie.Need-body-place-requires
-body-place-requires c κs = search needs
-
-add-expect : tie.Need-add-expect
-add-expect c = search needs
-
 expect-requires : tie.Need-expect-requires
 expect-requires c κs = eq-eqb _ _ (c .body-place .ensures ∙ ap bodyPlace (c .before .flash .ensures))
 
-wrong-length-requires : tie.Need-wrong-length-requires
-wrong-length-requires c κs = search needs
-
 expect-requires-2 : tie.Need-expect-requires-2
 expect-requires-2 c κs = ap not (c .wrong-length .ensures ∙ ap (λ r. wrongLength (Program r) 64) (c .before .before .before .flash .ensures))
-
-wrong-length-requires-2 : tie.Need-wrong-length-requires-2
-wrong-length-requires-2 c κs = search needs
 
 expect-requires-3 : tie.Need-expect-requires-3
 expect-requires-3 c κs = c .wrong-length2 .ensures ∙ ap (λ r. wrongLength (Program r) 65) (c .before .before .before .before .before .flash .ensures)
@@ -37,4 +22,4 @@ returns : tie.Need-returns
 returns c = search needs
 
 pub padding-spec : {M : Type 1} → statement M
-padding-spec = tie.close (tie.spec flash-requires body-place-requires add-expect expect-requires wrong-length-requires expect-requires-2 wrong-length-requires-2 expect-requires-3 returns)
+padding-spec = tie.close (tie.spec (λ c κs. search needs) (λ c κs. search needs) (λ c. search needs) expect-requires (λ c κs. search needs) expect-requires-2 (λ c κs. search needs) expect-requires-3 returns)

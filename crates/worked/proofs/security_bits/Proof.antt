@@ -7,12 +7,6 @@ use borrow.Author.Needs.{needs}
 use Rattle.worked.proofs.security_bits.Statement.{statement}
 use Rattle.worked.proofs.security_bits.Tie as tie
 
-delivered-requires : tie.Need-delivered-requires
-delivered-requires c κs = search needs
-
-write-hsb-requires : tie.Need-write-hsb-requires
-write-hsb-requires c κs = search needs
-
 expect-requires : tie.Need-expect-requires
 expect-requires c κs = eq-eqb _ _ (ap (λ x. x .hsb) (c .before .write-hsb .ensures ∙ ap (withHsb 0x4F) (c .before .before .delivered .ensures)))
 
@@ -20,4 +14,4 @@ returns : tie.Need-returns
 returns c = search needs
 
 pub security-bits-spec : {M : Type 1} → statement M
-security-bits-spec = tie.close (tie.spec delivered-requires write-hsb-requires expect-requires returns)
+security-bits-spec = tie.close (tie.spec (λ c κs. search needs) (λ c κs. search needs) expect-requires returns)

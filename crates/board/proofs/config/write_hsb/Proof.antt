@@ -5,14 +5,8 @@ use borrow.Author.Needs.{needs}
 use Rattle.board.proofs.config.write_hsb.Statement.{statement}
 use Rattle.board.proofs.config.write_hsb.Tie as tie
 
-mul-next : tie.Need-mul-next
-mul-next c = search needs
-
-add-next : tie.Need-add-next
-add-next c = search needs
-
 returns : tie.Need-returns
 returns c = refl
 
 pub write-hsb-spec : {M : Type 1} → statement M
-write-hsb-spec = tie.close (tie.spec mul-next add-next returns)
+write-hsb-spec = tie.close (tie.spec (λ c. search needs) (λ c. search needs) returns)

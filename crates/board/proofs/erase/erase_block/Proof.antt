@@ -1,6 +1,6 @@
 -- `board::erase::erase_block` meets its contract: the pages of a block, stored FFh, are the stores of its range.
 -- Assumes nothing.
-use mathlib.Core.Path.{_≡_, refl, sym, _∙_}
+use mathlib.Core.Path.{_≡_, sym, _∙_}
 use mathlib.Core.List.{List}
 use Prim.Native.Nat.{ℕ}
 use lib.ListN.{length}
@@ -29,41 +29,14 @@ erased k k₀ m m′ r q h p e =
 returns : tie.Need-returns
 returns c = not-erased _ _ (c .if1 .taken)
 
-enum-told : tie.Need-enum-told
-enum-told c = search needs
-
-erase-pages-requires : tie.Need-erase-pages-requires
-erase-pages-requires c κs = search needs
-
-enum-told-2 : tie.Need-enum-told-2
-enum-told-2 c = search needs
-
-erase-pages-requires-2 : tie.Need-erase-pages-requires-2
-erase-pages-requires-2 c κs = search needs
-
-enum-told-3 : tie.Need-enum-told-3
-enum-told-3 c = search needs
-
-erase-pages-requires-3 : tie.Need-erase-pages-requires-3
-erase-pages-requires-3 c κs = search needs
-
-same-length : tie.Need-same-length
-same-length c = search needs
-
 returns-2 : tie.Need-returns-2
 returns-2 c = erased _ Low _ _ _ (c .before .before .before .before .enum-told .given .1) (c .before .before .before .before .before .before .if1 .left) (c .before .before .erase-pages .ensures .0) (c .before .before .erase-pages .ensures .1)
 
-same-length-2 : tie.Need-same-length-2
-same-length-2 c = search needs
-
 returns-3 : tie.Need-returns-3
 returns-3 c = erased _ Middle _ _ _ (c .before .before .before .before .enum-told2 .given .1) (c .before .before .before .before .before .before .if1 .left) (c .before .before .erase-pages2 .ensures .0) (c .before .before .erase-pages2 .ensures .1)
-
-same-length-3 : tie.Need-same-length-3
-same-length-3 c = search needs
 
 returns-4 : tie.Need-returns-4
 returns-4 c = erased _ High _ _ _ (c .before .before .before .before .enum-told3 .given .1) (c .before .before .before .before .before .before .if1 .left) (c .before .before .erase-pages3 .ensures .0) (c .before .before .erase-pages3 .ensures .1)
 
 pub erase-block-spec : {M : Type 1} → statement M
-erase-block-spec = tie.close (tie.spec returns enum-told erase-pages-requires enum-told-2 erase-pages-requires-2 enum-told-3 erase-pages-requires-3 same-length returns-2 same-length-2 returns-3 same-length-3 returns-4)
+erase-block-spec = tie.close (tie.spec returns (λ c. search needs) (λ c κs. search needs) (λ c. search needs) (λ c κs. search needs) (λ c. search needs) (λ c κs. search needs) (λ c. search needs) returns-2 (λ c. search needs) returns-3 (λ c. search needs) returns-4)

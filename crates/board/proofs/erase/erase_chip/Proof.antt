@@ -1,6 +1,6 @@
 -- `board::erase::erase_chip` meets its contract: 256 pages of FFh are a blank flash.
 -- Assumes nothing.
-use mathlib.Core.Path.{_≡_, refl, sym, ap, _∙_}
+use mathlib.Core.Path.{_≡_, sym, _∙_}
 use mathlib.Core.List.{List}
 use Prim.Native.Nat.{ℕ}
 use lib.ListN.{length, replicate, length-replicate}
@@ -31,14 +31,8 @@ erased m m′ r h p e =
 returns : tie.Need-returns
 returns c = not-erased _ (c .if1 .taken)
 
-erase-pages-requires : tie.Need-erase-pages-requires
-erase-pages-requires c κs = search needs
-
-same-length : tie.Need-same-length
-same-length c = search needs
-
 returns-2 : tie.Need-returns-2
 returns-2 c = erased _ _ _ (c .before .before .before .before .if1 .left) (c .before .before .erase-pages .ensures .0) (c .before .before .erase-pages .ensures .1)
 
 pub erase-chip-spec : {M : Type 1} → statement M
-erase-chip-spec = tie.close (tie.spec returns erase-pages-requires same-length returns-2)
+erase-chip-spec = tie.close (tie.spec returns (λ c κs. search needs) (λ c. search needs) returns-2)

@@ -1,9 +1,8 @@
 -- `board::erase::erase_pages` meets its contract. The invariant: the pages counted so far are FFh.
 -- Assumes nothing.
 use mathlib.Core.Path.{_≡_, refl, sym, ap, _∙_}
-use mathlib.Core.List.{List, []}
+use mathlib.Core.List.{List}
 use Prim.Native.Nat.{ℕ, _+_, _-_, _*_, _≤_, _<_}
-use native.Mathlib.Nat.{add-zero}
 use native.Mathlib.Omega.{arith}
 use lib.ListN.{length, replicate, length-replicate, replicate-append-replicate}
 use Rattle.words.specs.Words.{overlay}

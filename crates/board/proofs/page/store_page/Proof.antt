@@ -1,7 +1,7 @@
 -- `board::page::store_page` meets its contract: the bytes laid over the page are the page stored with them.
 -- Assumes nothing.
-use mathlib.Core.Path.{_≡_, refl, sym, _∙_}
-use mathlib.Core.Bool.{Bool, true, false, and-false}
+use mathlib.Core.Path.{_≡_, sym, _∙_}
+use mathlib.Core.Bool.{and-false}
 use mathlib.Core.List.{List}
 use Prim.Native.Nat.{ℕ, _+_, _*_, _≤_, _<_}
 use native.Mathlib.Omega.{arith}
@@ -39,29 +39,11 @@ returns c = past-page _ _ _ _ (omega arith)
 returns-2 : tie.Need-returns-2
 returns-2 c = past-page _ _ _ _ (omega arith)
 
-cast-first : tie.Need-cast-first
-cast-first c = search needs
-
-mul-first : tie.Need-mul-first
-mul-first c = search needs
-
-add-if3 : tie.Need-add-if3
-add-if3 c = search needs
-
 returns-3 : tie.Need-returns-3
 returns-3 c = no-page _ _ _ _ (omega arith)
-
-add-lay : tie.Need-add-lay
-add-lay c = search needs
-
-lay-requires : tie.Need-lay-requires
-lay-requires c κs = search needs
-
-same-length : tie.Need-same-length
-same-length c = search needs
 
 returns-4 : tie.Need-returns-4
 returns-4 c = stored _ _ _ _ _ (omega arith) (omega arith) (c .before .before .lay .ensures .1)
 
 pub store-page-spec : {M : Type 1} → statement M
-store-page-spec = tie.close (tie.spec returns returns-2 cast-first mul-first add-if3 returns-3 add-lay lay-requires same-length returns-4)
+store-page-spec = tie.close (tie.spec returns returns-2 (λ c. search needs) (λ c. search needs) (λ c. search needs) returns-3 (λ c. search needs) (λ c κs. search needs) (λ c. search needs) returns-4)

@@ -20,29 +20,11 @@ module _ (range : Range) (d f m : List ℕ) where
       → (0 ≡ programmedPages range d f) × ((f ≡ programmedFlash range d f) × (m′ ≡ programmedEeprom range d m))
   of-eeprom a e m′ q s = rw q (refl, (refl, s))
 
-enum-known-range : tie.Need-enum-known-range
-enum-known-range c = search needs
-
-program-flash-requires : tie.Need-program-flash-requires
-program-flash-requires c κs = search needs
-
-enum-known-range-2 : tie.Need-enum-known-range-2
-enum-known-range-2 c = search needs
-
-program-eeprom-requires : tie.Need-program-eeprom-requires
-program-eeprom-requires c κs = search needs
-
-same-length : tie.Need-same-length
-same-length c = search needs
-
 returns : tie.Need-returns
 returns c = of-flash _ _ _ _ _ _ _ _ (c .before .before .before .before .before .range .given .1) (c .before .before .program-flash .ensures .0) (c .before .before .program-flash .ensures .1)
-
-same-length-2 : tie.Need-same-length-2
-same-length-2 c = search needs
 
 returns-2 : tie.Need-returns-2
 returns-2 c = of-eeprom _ _ _ _ _ _ _ (c .before .before .before .before .before .range2 .given .1) (c .before .before .program-eeprom .ensures)
 
 pub program-spec : {M : Type 1} → statement M
-program-spec = tie.close (tie.spec enum-known-range program-flash-requires enum-known-range-2 program-eeprom-requires same-length returns same-length-2 returns-2)
+program-spec = tie.close (tie.spec (λ c. search needs) (λ c κs. search needs) (λ c. search needs) (λ c κs. search needs) (λ c. search needs) returns (λ c. search needs) returns-2)

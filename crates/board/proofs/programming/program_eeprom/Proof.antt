@@ -1,6 +1,6 @@
 -- `board::programming::program_eeprom` meets its contract: the bytes laid over the EEPROM are those programmed.
 -- Assumes nothing.
-use mathlib.Core.Path.{_≡_, refl, sym, ap, _∙_}
+use mathlib.Core.Path.{_≡_, _∙_}
 use mathlib.Core.List.{List}
 use Prim.Native.Nat.{ℕ, _+_}
 use native.Mathlib.Omega.{arith}
@@ -24,12 +24,6 @@ module _ (a e : EepromAddress) (d m : List ℕ) where
   unfolding eepromAfter laid
   programmed m′ f q = q ∙ rw (fit eepromSize (a .0) (e .0) d m f, le-leb (a .0 + length d) (length m) (omega (arith, f)))
 
-cast-first : tie.Need-cast-first
-cast-first c = search needs
-
-cast-last : tie.Need-cast-last
-cast-last c = search needs
-
 returns : tie.Need-returns
 returns c = not-programmed _ _ _ _ (wrong-size (c .if1 .taken))
 
@@ -39,23 +33,11 @@ returns-2 c = not-programmed _ _ _ _ (backward (c .if2 .taken))
 returns-3 : tie.Need-returns-3
 returns-3 c = not-programmed _ _ _ _ (outside (c .if3 .taken))
 
-add-if4 : tie.Need-add-if4
-add-if4 c = search needs
-
-sub-if4 : tie.Need-sub-if4
-sub-if4 c = search needs
-
 returns-4 : tie.Need-returns-4
 returns-4 c = not-programmed _ _ _ _ (wrong-count (rw add-one at (c .if4 .taken)))
-
-lay-requires : tie.Need-lay-requires
-lay-requires c κs = search needs
-
-same-length : tie.Need-same-length
-same-length c = search needs
 
 returns-5 : tie.Need-returns-5
 returns-5 c = programmed _ _ _ _ _ (record { right-size = c .before .before .before .before .before .before .before .if1 .left; forward = c .before .before .before .before .before .before .if2 .left; inside = c .before .before .before .before .before .if3 .left; right-count = rw add-one at (c .before .before .before .before .if4 .left) }) (c .before .before .lay .ensures .1)
 
 pub program-eeprom-spec : {M : Type 1} → statement M
-program-eeprom-spec = tie.close (tie.spec cast-first cast-last returns returns-2 returns-3 add-if4 sub-if4 returns-4 lay-requires same-length returns-5)
+program-eeprom-spec = tie.close (tie.spec (λ c. search needs) (λ c. search needs) returns returns-2 returns-3 (λ c. search needs) (λ c. search needs) returns-4 (λ c κs. search needs) (λ c. search needs) returns-5)

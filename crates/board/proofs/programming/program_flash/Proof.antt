@@ -1,6 +1,6 @@
 -- `board::programming::program_flash` meets its contract: the pages that the bytes meet are the stores of the range.
 -- Assumes nothing.
-use mathlib.Core.Path.{_≡_, refl, sym, ap, _∙_}
+use mathlib.Core.Path.{_≡_, sym, ap, _∙_}
 use mathlib.Core.List.{List}
 use Prim.Native.Nat.{ℕ, _+_, _-_}
 use native.Mathlib.Omega.{arith}
@@ -31,12 +31,6 @@ module _ (a e : FlashAddress) (d m : List ℕ) where
         rw t (qm ∙ sym (storeAll-programStores (a .0) (e .0) d m flashPages (f .right-size) (f .forward) (omega (arith, f)) (f .right-count))),
       )
 
-cast-first : tie.Need-cast-first
-cast-first c = search needs
-
-cast-last : tie.Need-cast-last
-cast-last c = search needs
-
 returns : tie.Need-returns
 returns c = not-stored _ _ _ _ (wrong-size (c .if1 .taken))
 
@@ -46,23 +40,11 @@ returns-2 c = not-stored _ _ _ _ (backward (c .if2 .taken))
 returns-3 : tie.Need-returns-3
 returns-3 c = not-stored _ _ _ _ (outside (c .if3 .taken))
 
-add-if4 : tie.Need-add-if4
-add-if4 c = search needs
-
-sub-if4 : tie.Need-sub-if4
-sub-if4 c = search needs
-
 returns-4 : tie.Need-returns-4
 returns-4 c = not-stored _ _ _ _ (wrong-count (rw add-one at (c .if4 .taken)))
-
-program-pages-requires : tie.Need-program-pages-requires
-program-pages-requires c κs = search needs
-
-same-length : tie.Need-same-length
-same-length c = search needs
 
 returns-5 : tie.Need-returns-5
 returns-5 c = stored _ _ _ _ _ _ (record { right-size = c .before .before .before .before .before .before .before .if1 .left; forward = c .before .before .before .before .before .before .if2 .left; inside = c .before .before .before .before .before .if3 .left; right-count = rw add-one at (c .before .before .before .before .if4 .left) }) (c .before .before .program-pages .ensures .0) (c .before .before .program-pages .ensures .1)
 
 pub program-flash-spec : {M : Type 1} → statement M
-program-flash-spec = tie.close (tie.spec cast-first cast-last returns returns-2 returns-3 add-if4 sub-if4 returns-4 program-pages-requires same-length returns-5)
+program-flash-spec = tie.close (tie.spec (λ c. search needs) (λ c. search needs) returns returns-2 returns-3 (λ c. search needs) (λ c. search needs) returns-4 (λ c κs. search needs) (λ c. search needs) returns-5)

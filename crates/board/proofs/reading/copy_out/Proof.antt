@@ -1,11 +1,9 @@
 -- `board::reading::copy_out` meets its contract: the part of the memory, laid over the front of the buffer.
 -- Assumes nothing.
-use mathlib.Core.Path.{_≡_, refl, sym, ap, _∙_}
+use mathlib.Core.Path.{_≡_, _∙_}
 use mathlib.Core.Bool.{true, and-false}
 use mathlib.Core.List.{List}
-use Prim.Native.Nat.{ℕ, suc, _+_, _-_, _≤_, _<_}
-use native.Mathlib.Nat.{zero-add}
-use native.Mathlib.Numerals.{add-one}
+use Prim.Native.Nat.{ℕ, _+_, _-_, _≤_, _<_}
 use native.Mathlib.Omega.{arith}
 use lib.ListN.{length, take, drop, length-drop}
 use lib.Seq.{length-take-le}
@@ -47,32 +45,11 @@ returns c = backward _ _ _ _ (c .if1 .taken)
 returns-2 : tie.Need-returns-2
 returns-2 c = outside _ _ _ _ (c .if2 .taken)
 
-add-end : tie.Need-add-end
-add-end c = search needs
-
-sub-n : tie.Need-sub-n
-sub-n c = search needs
-
 returns-3 : tie.Need-returns-3
 returns-3 c = no-room _ _ _ _ (c .if3 .taken)
-
-sub-lay : tie.Need-sub-lay
-sub-lay c = search needs
-
-part-lay-start : tie.Need-part-lay-start
-part-lay-start c = search needs
-
-part-lay-end : tie.Need-part-lay-end
-part-lay-end c = search needs
-
-lay-requires : tie.Need-lay-requires
-lay-requires c κs = search needs
-
-same-length : tie.Need-same-length
-same-length c = search needs
 
 returns-4 : tie.Need-returns-4
 returns-4 c = copied-out _ _ _ _ _ (c .before .before .before .before .before .before .before .if1 .left) (c .before .before .before .before .before .before .if2 .left) (c .before .before .before .before .before .if3 .left) (c .before .before .lay .ensures .1)
 
 pub copy-out-spec : {M : Type 1} → statement M
-copy-out-spec = tie.close (tie.spec returns returns-2 add-end sub-n returns-3 sub-lay part-lay-start part-lay-end lay-requires same-length returns-4)
+copy-out-spec = tie.close (tie.spec returns returns-2 (λ c. search needs) (λ c. search needs) returns-3 (λ c. search needs) (λ c. search needs) (λ c. search needs) (λ c κs. search needs) (λ c. search needs) returns-4)

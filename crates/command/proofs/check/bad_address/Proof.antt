@@ -4,54 +4,6 @@ use borrow.Author.Needs.{needs}
 use Rattle.command.proofs.check.bad_address.Statement.{statement}
 use Rattle.command.proofs.check.bad_address.Tie as tie
 
-enum-known-command : tie.Need-enum-known-command
-enum-known-command c = search needs
-
-bad-range-requires : tie.Need-bad-range-requires
-bad-range-requires c κs = search needs
-
-enum-known-command-2 : tie.Need-enum-known-command-2
-enum-known-command-2 c = search needs
-
-bad-range-requires-2 : tie.Need-bad-range-requires-2
-bad-range-requires-2 c κs = search needs
-
-enum-known-command-3 : tie.Need-enum-known-command-3
-enum-known-command-3 c = search needs
-
-bad-check-requires : tie.Need-bad-check-requires
-bad-check-requires c κs = search needs
-
-enum-told : tie.Need-enum-told
-enum-told c = search needs
-
-enum-told-2 : tie.Need-enum-told-2
-enum-told-2 c = search needs
-
-enum-told-3 : tie.Need-enum-told-3
-enum-told-3 c = search needs
-
-enum-told-4 : tie.Need-enum-told-4
-enum-told-4 c = search needs
-
-enum-told-5 : tie.Need-enum-told-5
-enum-told-5 c = search needs
-
-enum-known-command-4 : tie.Need-enum-known-command-4
-enum-known-command-4 c = search needs
-
-past-flash-requires : tie.Need-past-flash-requires
-past-flash-requires c κs = search needs
-
-enum-told-6 : tie.Need-enum-told-6
-enum-told-6 c = search needs
-
-enum-told-7 : tie.Need-enum-told-7
-enum-told-7 c = search needs
-
-enum-told-8 : tie.Need-enum-told-8
-enum-told-8 c = search needs
-
 returns : tie.Need-returns
 returns c = rw (c .before .before .command .given .1) (c .bad-range .ensures)
 
@@ -89,4 +41,4 @@ returns-12 : tie.Need-returns-12
 returns-12 c = search needs
 
 pub bad-address-spec : {M : Type 1} → statement M
-bad-address-spec = tie.close (tie.spec enum-known-command bad-range-requires enum-known-command-2 bad-range-requires-2 enum-known-command-3 bad-check-requires enum-told enum-told-2 enum-told-3 enum-told-4 enum-told-5 enum-known-command-4 past-flash-requires enum-told-6 enum-told-7 enum-told-8 returns returns-2 returns-3 returns-4 returns-5 returns-6 returns-7 returns-8 returns-9 returns-10 returns-11 returns-12)
+bad-address-spec = tie.close (tie.spec (λ c. search needs) (λ c κs. search needs) (λ c. search needs) (λ c κs. search needs) (λ c. search needs) (λ c κs. search needs) (λ c. search needs) (λ c. search needs) (λ c. search needs) (λ c. search needs) (λ c. search needs) (λ c. search needs) (λ c κs. search needs) (λ c. search needs) (λ c. search needs) (λ c. search needs) returns returns-2 returns-3 returns-4 returns-5 returns-6 returns-7 returns-8 returns-9 returns-10 returns-11 returns-12)

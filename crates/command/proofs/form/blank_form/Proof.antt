@@ -5,17 +5,8 @@ use borrow.Author.Needs.{needs}
 use Rattle.command.proofs.form.blank_form.Statement.{statement}
 use Rattle.command.proofs.form.blank_form.Tie as tie
 
-high-at-requires : tie.Need-high-at-requires
-high-at-requires c κs = search needs
-
-high-at-requires-2 : tie.Need-high-at-requires-2
-high-at-requires-2 c κs = search needs
-
-exact-requires : tie.Need-exact-requires
-exact-requires c κs = search needs
-
 returns : tie.Need-returns
 returns c = c .exact .ensures ∙ rw (c .before .before .high-at .ensures, c .before .high-at2 .ensures)
 
 pub blank-form-spec : {M : Type 1} → statement M
-blank-form-spec = tie.close (tie.spec high-at-requires high-at-requires-2 exact-requires returns)
+blank-form-spec = tie.close (tie.spec (λ c κs. search needs) (λ c κs. search needs) (λ c κs. search needs) returns)

@@ -6,21 +6,6 @@ use borrow.Author.Needs.{needs}
 use Rattle.command.proofs.form.erase_form.Statement.{statement}
 use Rattle.command.proofs.form.erase_form.Tie as tie
 
-byte-at-requires : tie.Need-byte-at-requires
-byte-at-requires c κs = search needs
-
-exact-requires : tie.Need-exact-requires
-exact-requires c κs = search needs
-
-exact-requires-2 : tie.Need-exact-requires-2
-exact-requires-2 c κs = search needs
-
-exact-requires-3 : tie.Need-exact-requires-3
-exact-requires-3 c κs = search needs
-
-exact-requires-4 : tie.Need-exact-requires-4
-exact-requires-4 c κs = search needs
-
 returns : tie.Need-returns
 returns c = c .exact .ensures ∙ simp (← c .before .before .byte-at .ensures, c .before .match .keys1)
 
@@ -37,4 +22,4 @@ returns-5 : tie.Need-returns-5
 returns-5 c = simp (← c .before .byte-at .ensures, ne-eqb _ _ (c .match .rest .0 .0 .0 .1), ne-eqb _ _ (c .match .rest .0 .0 .1), ne-eqb _ _ (c .match .rest .0 .1), ne-eqb _ _ (c .match .rest .1))
 
 pub erase-form-spec : {M : Type 1} → statement M
-erase-form-spec = tie.close (tie.spec byte-at-requires exact-requires exact-requires-2 exact-requires-3 exact-requires-4 returns returns-2 returns-3 returns-4 returns-5)
+erase-form-spec = tie.close (tie.spec (λ c κs. search needs) (λ c κs. search needs) (λ c κs. search needs) (λ c κs. search needs) (λ c κs. search needs) returns returns-2 returns-3 returns-4 returns-5)

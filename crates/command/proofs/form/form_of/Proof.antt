@@ -14,60 +14,6 @@ by-row : (d : List ℕ) (n : ℕ) {code : ℕ} (r : Form) → code ≡ highFirst
 unfolding form
 by-row d n r e q p = p ∙ ap (λ x. formOf (row x d)) (sym q ∙ e)
 
-high-at-requires : tie.Need-high-at-requires
-high-at-requires c κs = search needs
-
-flash-range-requires : tie.Need-flash-range-requires
-flash-range-requires c κs = search needs
-
-six-or-more-requires : tie.Need-six-or-more-requires
-six-or-more-requires c κs = search needs
-
-eeprom-range-requires : tie.Need-eeprom-range-requires
-eeprom-range-requires c κs = search needs
-
-six-or-more-requires-2 : tie.Need-six-or-more-requires-2
-six-or-more-requires-2 c κs = search needs
-
-flash-range-requires-2 : tie.Need-flash-range-requires-2
-flash-range-requires-2 c κs = search needs
-
-exact-requires : tie.Need-exact-requires
-exact-requires c κs = search needs
-
-eeprom-range-requires-2 : tie.Need-eeprom-range-requires-2
-eeprom-range-requires-2 c κs = search needs
-
-exact-requires-2 : tie.Need-exact-requires-2
-exact-requires-2 c κs = search needs
-
-blank-form-requires : tie.Need-blank-form-requires
-blank-form-requires c κs = search needs
-
-erase-form-requires : tie.Need-erase-form-requires
-erase-form-requires c κs = search needs
-
-write-form-requires : tie.Need-write-form-requires
-write-form-requires c κs = search needs
-
-byte-at-requires : tie.Need-byte-at-requires
-byte-at-requires c κs = search needs
-
-zero-third-requires : tie.Need-zero-third-requires
-zero-third-requires c κs = search needs
-
-start-form-requires : tie.Need-start-form-requires
-start-form-requires c κs = search needs
-
-zero-third-requires-2 : tie.Need-zero-third-requires-2
-zero-third-requires-2 c κs = search needs
-
-read-form-requires : tie.Need-read-form-requires
-read-form-requires c κs = search needs
-
-zero-third-requires-3 : tie.Need-zero-third-requires-3
-zero-third-requires-3 c κs = search needs
-
 returns : tie.Need-returns
 returns c = by-row _ 0x0100 _ (c .before .before .before .high-at .ensures) (c .before .before .match .keys1) (c .six-or-more .ensures ∙ rw (c .before .flash-range .ensures))
 
@@ -109,4 +55,4 @@ unfolding form
 returns-13 c = simp (← c .before .high-at .ensures, ne-eqb _ _ (c .match .rest .0 .0 .0 .0 .0 .0 .0 .0 .0 .0 .0 .1), ne-eqb _ _ (c .match .rest .0 .0 .0 .0 .0 .0 .0 .0 .0 .0 .1), ne-eqb _ _ (c .match .rest .0 .0 .0 .0 .0 .0 .0 .0 .0 .1), ne-eqb _ _ (c .match .rest .0 .0 .0 .0 .0 .0 .0 .0 .1), ne-eqb _ _ (c .match .rest .0 .0 .0 .0 .0 .0 .0 .1), ne-eqb _ _ (c .match .rest .0 .0 .0 .0 .0 .0 .1), ne-eqb _ _ (c .match .rest .0 .0 .0 .0 .0 .1), ne-eqb _ _ (c .match .rest .0 .0 .0 .0 .1), ne-eqb _ _ (c .match .rest .0 .0 .0 .1), ne-eqb _ _ (c .match .rest .0 .0 .1), ne-eqb _ _ (c .match .rest .0 .1), ne-eqb _ _ (c .match .rest .1))
 
 pub form-of-spec : {M : Type 1} → statement M
-form-of-spec = tie.close (tie.spec high-at-requires flash-range-requires six-or-more-requires eeprom-range-requires six-or-more-requires-2 flash-range-requires-2 exact-requires eeprom-range-requires-2 exact-requires-2 blank-form-requires erase-form-requires write-form-requires byte-at-requires zero-third-requires start-form-requires zero-third-requires-2 read-form-requires zero-third-requires-3 returns returns-2 returns-3 returns-4 returns-5 returns-6 returns-7 returns-8 returns-9 returns-10 returns-11 returns-12 returns-13)
+form-of-spec = tie.close (tie.spec (λ c κs. search needs) (λ c κs. search needs) (λ c κs. search needs) (λ c κs. search needs) (λ c κs. search needs) (λ c κs. search needs) (λ c κs. search needs) (λ c κs. search needs) (λ c κs. search needs) (λ c κs. search needs) (λ c κs. search needs) (λ c κs. search needs) (λ c κs. search needs) (λ c κs. search needs) (λ c κs. search needs) (λ c κs. search needs) (λ c κs. search needs) (λ c κs. search needs) returns returns-2 returns-3 returns-4 returns-5 returns-6 returns-7 returns-8 returns-9 returns-10 returns-11 returns-12 returns-13)

@@ -6,18 +6,6 @@ use borrow.Author.Needs.{needs}
 use Rattle.command.proofs.form.start_form.Statement.{statement}
 use Rattle.command.proofs.form.start_form.Tie as tie
 
-byte-at-requires : tie.Need-byte-at-requires
-byte-at-requires c κs = search needs
-
-exact-requires : tie.Need-exact-requires
-exact-requires c κs = search needs
-
-high-at-requires : tie.Need-high-at-requires
-high-at-requires c κs = search needs
-
-exact-requires-2 : tie.Need-exact-requires-2
-exact-requires-2 c κs = search needs
-
 returns : tie.Need-returns
 returns c = c .exact .ensures ∙ simp (← c .before .before .byte-at .ensures, c .before .match .keys1)
 
@@ -28,4 +16,4 @@ returns-3 : tie.Need-returns-3
 returns-3 c = simp (← c .before .byte-at .ensures, ne-eqb _ _ (c .match .rest .0 .1), ne-eqb _ _ (c .match .rest .1))
 
 pub start-form-spec : {M : Type 1} → statement M
-start-form-spec = tie.close (tie.spec byte-at-requires exact-requires high-at-requires exact-requires-2 returns returns-2 returns-3)
+start-form-spec = tie.close (tie.spec (λ c κs. search needs) (λ c κs. search needs) (λ c κs. search needs) (λ c κs. search needs) returns returns-2 returns-3)

@@ -6,17 +6,11 @@ use borrow.Author.Needs.{needs}
 use Rattle.command.proofs.form.zero_third.Statement.{statement}
 use Rattle.command.proofs.form.zero_third.Tie as tie
 
-byte-at-requires : tie.Need-byte-at-requires
-byte-at-requires c κs = search needs
-
 returns : tie.Need-returns
 returns c = simp (← c .before .byte-at .ensures, ne-eqb _ _ (c .if1 .taken))
-
-exact-requires : tie.Need-exact-requires
-exact-requires c κs = search needs
 
 returns-2 : tie.Need-returns-2
 returns-2 c = c .exact .ensures ∙ simp (← c .before .before .byte-at .ensures, eq-eqb _ _ (c .before .if1 .left))
 
 pub zero-third-spec : {M : Type 1} → statement M
-zero-third-spec = tie.close (tie.spec byte-at-requires returns exact-requires returns-2)
+zero-third-spec = tie.close (tie.spec (λ c κs. search needs) returns (λ c κs. search needs) returns-2)

@@ -1,6 +1,6 @@
 -- `command::reader::read_command` meets its contract: form, address, whole length.
 -- Assumes nothing.
-use mathlib.Core.Path.{_≡_, refl, sym, ap, _∙_}
+use mathlib.Core.Path.{_≡_, refl, sym, _∙_}
 use mathlib.Core.Bool.{true, false}
 use mathlib.Core.List.{List}
 use mathlib.Core.Option.{Option, none, some}
@@ -9,7 +9,7 @@ use native.Mathlib.Omega.{arith}
 use Rattle.command.specs.Form.{Command, Form, Is, Unlisted, form, formOf}
 use Rattle.command.specs.Address.{badAddress}
 use Rattle.command.specs.Transfer.{badLength}
-use Rattle.command.specs.Reader.{Parts, Reading, Taken, Stalls, BadAddress, partsOf, readCommand}
+use Rattle.command.specs.Reader.{Parts, Taken, Stalls, BadAddress, partsOf, readCommand}
 use borrow.Author.Needs.{needs}
 use Rattle.command.proofs.reader.read_command.Statement.{statement}
 use Rattle.command.proofs.reader.read_command.Tie as tie
@@ -43,29 +43,11 @@ unlisted : (d : List ℕ) (f : Form) → f ≡ formOf (form d) → f ≡ Unliste
 unfolding readCommand
 unlisted d f q e = rw (no-form (form d) (sym q ∙ e))
 
-form-of-requires : tie.Need-form-of-requires
-form-of-requires c κs = search needs
-
-enum-known-command : tie.Need-enum-known-command
-enum-known-command c = search needs
-
-bad-address-requires : tie.Need-bad-address-requires
-bad-address-requires c κs = search needs
-
 returns : tie.Need-returns
 returns c = wrong-address _ _ _ (c .before .before .before .before .before .form-of .ensures) (c .before .before .before .command .given .1) (sym (c .before .bad-address .ensures) ∙ c .if1 .taken)
 
-wrong-length-requires : tie.Need-wrong-length-requires
-wrong-length-requires c κs = search needs
-
 returns-2 : tie.Need-returns-2
 returns-2 c = wrong-whole _ _ _ (c .before .before .before .before .before .before .before .form-of .ensures) (c .before .before .before .before .before .command .given .1) (sym (c .before .before .before .bad-address .ensures) ∙ c .before .before .if1 .left) (sym (c .before .wrong-length .ensures) ∙ c .if2 .taken)
-
-parts-of-requires : tie.Need-parts-of-requires
-parts-of-requires c κs = search needs
-
-enum-told : tie.Need-enum-told
-enum-told c = search needs
 
 returns-3 : tie.Need-returns-3
 returns-3 c = taken _ _ _ (c .before .before .before .before .before .before .before .before .form-of .ensures) _ (c .before .before .before .before .before .before .command .given .1) (sym (c .before .before .before .before .bad-address .ensures) ∙ c .before .before .before .if1 .left) (sym (c .before .before .wrong-length .ensures) ∙ c .before .if2 .left) (c .parts-of .ensures)
@@ -74,4 +56,4 @@ returns-4 : tie.Need-returns-4
 returns-4 c = unlisted _ _ (c .before .before .form-of .ensures) (c .enum-told .given .1)
 
 pub read-command-spec : {M : Type 1} → statement M
-read-command-spec = tie.close (tie.spec form-of-requires enum-known-command bad-address-requires returns wrong-length-requires returns-2 parts-of-requires enum-told returns-3 returns-4)
+read-command-spec = tie.close (tie.spec (λ c κs. search needs) (λ c. search needs) (λ c κs. search needs) returns (λ c κs. search needs) returns-2 (λ c κs. search needs) (λ c. search needs) returns-3 returns-4)

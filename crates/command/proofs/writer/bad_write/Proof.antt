@@ -5,53 +5,8 @@ use borrow.Author.Needs.{needs}
 use Rattle.command.proofs.writer.bad_write.Statement.{statement}
 use Rattle.command.proofs.writer.bad_write.Tie as tie
 
-enum-known-command : tie.Need-enum-known-command
-enum-known-command c = search needs
-
-range-count-requires : tie.Need-range-count-requires
-range-count-requires c κs = search needs
-
 returns : tie.Need-returns
 returns c = simp (c .before .before .before .command .given .1, ← c .before .range-count .ensures .0, ne-eqb _ _ (c .if1 .taken))
-
-enum-told : tie.Need-enum-told
-enum-told c = search needs
-
-enum-told-2 : tie.Need-enum-told-2
-enum-told-2 c = search needs
-
-enum-told-3 : tie.Need-enum-told-3
-enum-told-3 c = search needs
-
-enum-told-4 : tie.Need-enum-told-4
-enum-told-4 c = search needs
-
-enum-known-command-2 : tie.Need-enum-known-command-2
-enum-known-command-2 c = search needs
-
-is-writable-requires : tie.Need-is-writable-requires
-is-writable-requires c κs = search needs
-
-enum-told-5 : tie.Need-enum-told-5
-enum-told-5 c = search needs
-
-enum-told-6 : tie.Need-enum-told-6
-enum-told-6 c = search needs
-
-enum-told-7 : tie.Need-enum-told-7
-enum-told-7 c = search needs
-
-enum-told-8 : tie.Need-enum-told-8
-enum-told-8 c = search needs
-
-enum-known-command-3 : tie.Need-enum-known-command-3
-enum-known-command-3 c = search needs
-
-is-readable-requires : tie.Need-is-readable-requires
-is-readable-requires c κs = search needs
-
-enum-told-9 : tie.Need-enum-told-9
-enum-told-9 c = search needs
 
 returns-2 : tie.Need-returns-2
 returns-2 c = simp (c .before .before .before .command .given .1, ← c .before .range-count .ensures .0, eq-eqb _ _ (c .if1 .left))
@@ -90,4 +45,4 @@ returns-13 : tie.Need-returns-13
 returns-13 c = search needs
 
 pub bad-write-spec : {M : Type 1} → statement M
-bad-write-spec = tie.close (tie.spec enum-known-command range-count-requires returns enum-told enum-told-2 enum-told-3 enum-told-4 enum-known-command-2 is-writable-requires enum-told-5 enum-told-6 enum-told-7 enum-told-8 enum-known-command-3 is-readable-requires enum-told-9 returns-2 returns-3 returns-4 returns-5 returns-6 returns-7 returns-8 returns-9 returns-10 returns-11 returns-12 returns-13)
+bad-write-spec = tie.close (tie.spec (λ c. search needs) (λ c κs. search needs) returns (λ c. search needs) (λ c. search needs) (λ c. search needs) (λ c. search needs) (λ c. search needs) (λ c κs. search needs) (λ c. search needs) (λ c. search needs) (λ c. search needs) (λ c. search needs) (λ c. search needs) (λ c κs. search needs) (λ c. search needs) returns-2 returns-3 returns-4 returns-5 returns-6 returns-7 returns-8 returns-9 returns-10 returns-11 returns-12 returns-13)

@@ -1,10 +1,9 @@
 -- `command::writer::program_head` meets its contract.
 -- Assumes nothing.
-use mathlib.Core.Path.{_≡_, refl, sym, subst}
+use mathlib.Core.Path.{_≡_, refl}
 use Rattle.board.specs.declared.address.Range.{Range}
-use Rattle.board.specs.declared.address.Range.the-variants.{Flash, Eeprom}
 use Rattle.board.specs.Memory.{rangeStart, rangeEnd}
-use Rattle.command.specs.Form.{Command, Program}
+use Rattle.command.specs.Form.{Program}
 use Rattle.command.specs.Writer.{Head, HeadOf, headBytes, rangeHead, programSelector}
 use borrow.Author.Needs.{needs}
 use Rattle.command.proofs.writer.program_head.Statement.{statement}
@@ -14,18 +13,6 @@ of-range : (r s : Range) (h : Head) → r ≡ s → h ≡ rangeHead 0x01 (progra
 unfolding headBytes
 of-range r s h q e = rw (q, e) (record { size = refl; bytes = refl; six = refl })
 
-enum-known-range : tie.Need-enum-known-range
-enum-known-range c = search needs
-
-range-head-requires : tie.Need-range-head-requires
-range-head-requires c κs = search needs
-
-enum-known-range-2 : tie.Need-enum-known-range-2
-enum-known-range-2 c = search needs
-
-range-head-requires-2 : tie.Need-range-head-requires-2
-range-head-requires-2 c κs = search needs
-
 returns : tie.Need-returns
 returns c = of-range _ _ _ (c .before .before .range .given .1) (c .range-head .ensures)
 
@@ -33,4 +20,4 @@ returns-2 : tie.Need-returns-2
 returns-2 c = of-range _ _ _ (c .before .before .range2 .given .1) (c .range-head2 .ensures)
 
 pub program-head-spec : {M : Type 1} → statement M
-program-head-spec = tie.close (tie.spec enum-known-range range-head-requires enum-known-range-2 range-head-requires-2 returns returns-2)
+program-head-spec = tie.close (tie.spec (λ c. search needs) (λ c κs. search needs) (λ c. search needs) (λ c κs. search needs) returns returns-2)

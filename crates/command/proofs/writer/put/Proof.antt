@@ -63,55 +63,25 @@ module _ (h : Head) (t : Tail) (d s room : List ℕ) (p : Put h t d s) where
       let room-enough = le-ltb (length room) (length (x ++ y ++ z ++ w)) (omega (arith, put-length)) in
       (rw room-enough (ap Wrote (sym put-length)), rw room-enough e₄)
 
-add-at-body : tie.Need-add-at-body
-add-at-body c = search needs
-
-add-at-suffix : tie.Need-add-at-suffix
-add-at-suffix c = search needs
-
-add-end : tie.Need-add-end
-add-end c = search needs
-
 returns : tie.Need-returns
 unfolding end
 returns c = no-room _ _ _ _ _ (c .before .before .before .before .pre) (c .if1 .taken)
 
-array-share-prefix-bytes : tie.Need-array-share-prefix-bytes
-array-share-prefix-bytes c = search needs
-
 slice-aggregate-lay : tie.Need-slice-aggregate-lay
 slice-aggregate-lay c = sym (head-length _ _ _ _ [] (c .before .before .before .before .before .before .before .pre))
-
-lay-requires : tie.Need-lay-requires
-lay-requires c κs = search needs
-
-array-share-prefix-zeros : tie.Need-array-share-prefix-zeros
-array-share-prefix-zeros c = search needs
 
 slice-aggregate-lay-2 : tie.Need-slice-aggregate-lay-2
 slice-aggregate-lay-2 c = sym (zeros-taken _ _ _ _ [] (c .before .before .before .before .before .before .before .before .before .before .before .before .pre))
 
-lay-requires-2 : tie.Need-lay-requires-2
-lay-requires-2 c κs = search needs
-
 slice-aggregate-lay-3 : tie.Need-slice-aggregate-lay-3
 slice-aggregate-lay-3 c = sym (body-length _ _ _ _ [] (c .before .before .before .before .before .before .before .before .before .before .before .before .before .before .before .before .before .pre))
 
-lay-requires-3 : tie.Need-lay-requires-3
-lay-requires-3 c κs = search needs
-
 slice-aggregate-lay-4 : tie.Need-slice-aggregate-lay-4
 slice-aggregate-lay-4 c = sym (suffix-length _ _ _ _ [] (c .before .before .before .before .before .before .before .before .before .before .before .before .before .before .before .before .before .before .before .before .before .before .pre))
-
-lay-requires-4 : tie.Need-lay-requires-4
-lay-requires-4 c κs = search needs
-
-same-length : tie.Need-same-length
-same-length c = search needs
 
 returns-2 : tie.Need-returns-2
 unfolding end
 returns-2 c = all-put _ _ _ _ _ (c .before .before .before .before .before .before .before .before .before .before .before .before .before .before .before .before .before .before .before .before .before .before .before .before .before .pre) _ _ _ _ (c .before .before .before .before .before .before .before .before .before .before .before .before .before .before .before .before .before .before .before .before .before .if1 .left) (c .before .before .before .before .before .before .before .before .before .before .before .before .before .before .before .before .before .lay .ensures .1) (c .before .before .before .before .before .before .before .before .before .before .before .before .lay2 .ensures .1) (c .before .before .before .before .before .before .before .lay3 .ensures .1) (c .before .before .lay4 .ensures .1)
 
 pub put-spec : {M : Type 1} → statement M
-put-spec = tie.close (tie.spec add-at-body add-at-suffix add-end returns array-share-prefix-bytes slice-aggregate-lay lay-requires array-share-prefix-zeros slice-aggregate-lay-2 lay-requires-2 slice-aggregate-lay-3 lay-requires-3 slice-aggregate-lay-4 lay-requires-4 same-length returns-2)
+put-spec = tie.close (tie.spec (λ c. search needs) (λ c. search needs) (λ c. search needs) returns (λ c. search needs) slice-aggregate-lay (λ c κs. search needs) (λ c. search needs) slice-aggregate-lay-2 (λ c κs. search needs) slice-aggregate-lay-3 (λ c κs. search needs) slice-aggregate-lay-4 (λ c κs. search needs) (λ c. search needs) returns-2)

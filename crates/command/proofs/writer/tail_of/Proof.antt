@@ -1,13 +1,13 @@
 -- `command::writer::tail_of` meets its contract: the body begins after the head and the zeros.
 -- Assumes nothing.
-use mathlib.Core.Path.{_≡_, ap, sym}
+use mathlib.Core.Path.{_≡_}
 use Prim.Native.Nat.{ℕ, _+_, _-_}
 use native.Mathlib.Omega.{arith}
 use Rattle.board.specs.declared.address.Range.{Range}
 use Rattle.board.specs.Memory.{rangeStart}
 use Rattle.command.specs.Form.{Command, Program}
 use Rattle.command.specs.Transfer.{bodyPlace, fillerSize, padding}
-use Rattle.command.specs.Writer.{Tail, tailFor}
+use Rattle.command.specs.Writer.{tailFor}
 use borrow.Author.Needs.{needs}
 use Rattle.command.proofs.writer.tail_of.Statement.{statement}
 use Rattle.command.proofs.writer.tail_of.Tie as tie
@@ -16,48 +16,6 @@ by-range : (k : Command) (r : Range) (d s place : ℕ) → k ≡ Program r → p
 by-range k r d s place q p =
     let z : place - 6 ≡ fillerSize + padding (rangeStart r) = omega arith in
     rw (q, z)
-
-enum-known-command : tie.Need-enum-known-command
-enum-known-command c = search needs
-
-body-place-requires : tie.Need-body-place-requires
-body-place-requires c κs = search needs
-
-sub-t8 : tie.Need-sub-t8
-sub-t8 c = search needs
-
-enum-told : tie.Need-enum-told
-enum-told c = search needs
-
-enum-told-2 : tie.Need-enum-told-2
-enum-told-2 c = search needs
-
-enum-told-3 : tie.Need-enum-told-3
-enum-told-3 c = search needs
-
-enum-told-4 : tie.Need-enum-told-4
-enum-told-4 c = search needs
-
-enum-told-5 : tie.Need-enum-told-5
-enum-told-5 c = search needs
-
-enum-told-6 : tie.Need-enum-told-6
-enum-told-6 c = search needs
-
-enum-told-7 : tie.Need-enum-told-7
-enum-told-7 c = search needs
-
-enum-told-8 : tie.Need-enum-told-8
-enum-told-8 c = search needs
-
-enum-told-9 : tie.Need-enum-told-9
-enum-told-9 c = search needs
-
-enum-told-10 : tie.Need-enum-told-10
-enum-told-10 c = search needs
-
-enum-told-11 : tie.Need-enum-told-11
-enum-told-11 c = search needs
 
 returns : tie.Need-returns
 returns c = by-range _ _ _ _ _ (c .before .before .command .given .1) (c .body-place .ensures)
@@ -96,4 +54,4 @@ returns-12 : tie.Need-returns-12
 returns-12 c = rw (c .enum-told11 .given .1)
 
 pub tail-of-spec : {M : Type 1} → statement M
-tail-of-spec = tie.close (tie.spec enum-known-command body-place-requires sub-t8 enum-told enum-told-2 enum-told-3 enum-told-4 enum-told-5 enum-told-6 enum-told-7 enum-told-8 enum-told-9 enum-told-10 enum-told-11 returns returns-2 returns-3 returns-4 returns-5 returns-6 returns-7 returns-8 returns-9 returns-10 returns-11 returns-12)
+tail-of-spec = tie.close (tie.spec (λ c. search needs) (λ c κs. search needs) (λ c. search needs) (λ c. search needs) (λ c. search needs) (λ c. search needs) (λ c. search needs) (λ c. search needs) (λ c. search needs) (λ c. search needs) (λ c. search needs) (λ c. search needs) (λ c. search needs) (λ c. search needs) returns returns-2 returns-3 returns-4 returns-5 returns-6 returns-7 returns-8 returns-9 returns-10 returns-11 returns-12)

@@ -1,9 +1,9 @@
 -- `command::writer::write_command` meets its contract: 8, or what is put.
 -- Assumes nothing.
-use mathlib.Core.Path.{_≡_, refl, sym, ap, _∙_}
-use mathlib.Core.Bool.{Bool, true, false, not, _||_}
-use mathlib.Core.List.{List, _++_}
-use Prim.Native.Nat.{ℕ, _+_, _≤_, zero-le}
+use mathlib.Core.Path.{_≡_, sym, _∙_}
+use mathlib.Core.Bool.{true, false, not, _||_}
+use mathlib.Core.List.{List}
+use Prim.Native.Nat.{ℕ, _≤_, zero-le}
 use native.Mathlib.Omega.{arith}
 use lib.Dec.{lit≤, eqb}
 use lib.ListN.{length}
@@ -91,32 +91,17 @@ module _ (k : Command) (d s room : List ℕ) where
   unfolding writeCommand roomAfter putBytes commandBytes
   written h t r room′ a w g e p q = (rw (a, w) (p ∙ rw (e, g .bytes)), rw (a, w) (q ∙ rw (e, g .bytes)))
 
-bad-address-requires : tie.Need-bad-address-requires
-bad-address-requires c κs = search needs
-
 returns : tie.Need-returns
 returns c = refused _ _ _ _ (rw (sym (c .before .bad-address .ensures) ∙ c .if1 .taken))
-
-bad-write-requires : tie.Need-bad-write-requires
-bad-write-requires c κs = search needs
 
 returns-2 : tie.Need-returns-2
 returns-2 c = wrong-parts _ _ _ _ (sym (c .before .before .before .bad-address .ensures) ∙ c .before .before .if1 .left) (sym (c .before .bad-write .ensures) ∙ c .if2 .taken)
 
-head-of-requires : tie.Need-head-of-requires
-head-of-requires c κs = search needs
-
-tail-of-requires : tie.Need-tail-of-requires
-tail-of-requires c κs = search needs
-
 put-requires : tie.Need-put-requires
 put-requires c κs = puts _ _ _ _ _ (sym (c .before .before .before .before .before .before .bad-address .ensures) ∙ c .before .before .before .before .before .if1 .left) (sym (c .before .before .before .before .bad-write .ensures) ∙ c .before .before .before .if2 .left) (c .before .before .head-of .ensures) (c .before .tail-of .ensures)
-
-same-length : tie.Need-same-length
-same-length c = search needs
 
 returns-3 : tie.Need-returns-3
 returns-3 c = written _ _ _ _ _ _ _ _ (sym (c .before .before .before .before .before .before .before .before .before .bad-address .ensures) ∙ c .before .before .before .before .before .before .before .before .if1 .left) (sym (c .before .before .before .before .before .before .before .bad-write .ensures) ∙ c .before .before .before .before .before .before .if2 .left) (c .before .before .before .before .before .head-of .ensures) (c .before .before .before .before .tail-of .ensures) (c .before .before .put .ensures .0) (c .before .before .put .ensures .1)
 
 pub write-command-spec : {M : Type 1} → statement M
-write-command-spec = tie.close (tie.spec bad-address-requires returns bad-write-requires returns-2 head-of-requires tail-of-requires put-requires same-length returns-3)
+write-command-spec = tie.close (tie.spec (λ c κs. search needs) returns (λ c κs. search needs) returns-2 (λ c κs. search needs) (λ c κs. search needs) put-requires (λ c. search needs) returns-3)

@@ -6,17 +6,11 @@ use borrow.Author.Needs.{needs}
 use Rattle.loader.proofs.download.ended.Statement.{statement}
 use Rattle.loader.proofs.download.ended.Tie as tie
 
-quiet-requires : tie.Need-quiet-requires
-quiet-requires c κs = search needs
-
 returns : tie.Need-returns
 returns c = ends (c .before .before .before .args .session) _ _ (eq-eqb _ 5 (c .before .if1 .taken)) (c .quiet .ensures)
-
-stall-requires : tie.Need-stall-requires
-stall-requires c κs = search needs
 
 returns-2 : tie.Need-returns-2
 returns-2 c = ends-not (c .before .before .before .args .session) _ _ (ne-eqb _ 5 (c .before .if1 .left)) (c .stall .ensures)
 
 pub ended-spec : {M : Type 1} → statement M
-ended-spec = tie.close (tie.spec quiet-requires returns stall-requires returns-2)
+ended-spec = tie.close (tie.spec (λ c κs. search needs) returns (λ c κs. search needs) returns-2)

@@ -7,32 +7,11 @@ use borrow.Author.Needs.{needs}
 use Rattle.loader.proofs.download.obey.Statement.{statement}
 use Rattle.loader.proofs.download.obey.Tie as tie
 
-level-of-requires : tie.Need-level-of-requires
-level-of-requires c κs = search needs
-
-level-status-requires : tie.Need-level-status-requires
-level-status-requires c κs = search needs
-
-bad-address-requires : tie.Need-bad-address-requires
-bad-address-requires c κs = search needs
-
-quiet-requires : tie.Need-quiet-requires
-quiet-requires c κs = search needs
-
 returns : tie.Need-returns
 returns c = forbidden (c .before .before .before .before .before .before .before .before .args .session) (c .before .before .before .before .before .before .before .before .args .config) (c .before .before .before .before .before .before .before .before .args .flash .now) (c .before .before .before .before .before .before .before .before .args .eeprom .now) (c .before .before .before .before .before .before .before .before .args .command) (c .before .before .before .before .before .before .before .before .args .sent .now) _ (c .before .before .before .level-status .ensures ∙ ap (levelStatus (c .before .before .before .before .before .before .before .before .args .command)) (c .before .before .before .before .level-of .ensures)) (c .before .if1 .taken) (c .quiet .ensures)
 
-quiet-requires-2 : tie.Need-quiet-requires-2
-quiet-requires-2 c κs = search needs
-
 returns-2 : tie.Need-returns-2
 returns-2 c = wrong-address (c .before .before .before .before .before .before .before .before .before .args .session) (c .before .before .before .before .before .before .before .before .before .args .config) (c .before .before .before .before .before .before .before .before .before .args .flash .now) (c .before .before .before .before .before .before .before .before .before .args .eeprom .now) (c .before .before .before .before .before .before .before .before .before .args .command) (c .before .before .before .before .before .before .before .before .before .args .sent .now) _ (c .before .before .before .before .level-status .ensures ∙ ap (levelStatus (c .before .before .before .before .before .before .before .before .before .args .command)) (c .before .before .before .before .before .level-of .ensures)) (c .before .before .if1 .left) (sym (c .before .before .before .bad-address .ensures) ∙ c .before .if2 .taken) (c .quiet2 .ensures)
-
-wrong-length-requires : tie.Need-wrong-length-requires
-wrong-length-requires c κs = search needs
-
-stall-requires : tie.Need-stall-requires
-stall-requires c κs = search needs
 
 returns-3 : tie.Need-returns-3
 returns-3 c = wrong-whole (c .before .before .before .before .before .before .before .before .before .before .before .args .session) (c .before .before .before .before .before .before .before .before .before .before .before .args .config) (c .before .before .before .before .before .before .before .before .before .before .before .args .flash .now) (c .before .before .before .before .before .before .before .before .before .before .before .args .eeprom .now) (c .before .before .before .before .before .before .before .before .before .before .before .args .command) (c .before .before .before .before .before .before .before .before .before .before .before .args .sent .now) _ (c .before .before .before .before .before .before .level-status .ensures ∙ ap (levelStatus (c .before .before .before .before .before .before .before .before .before .before .before .args .command)) (c .before .before .before .before .before .before .before .level-of .ensures)) (c .before .before .before .before .if1 .left) (sym (c .before .before .before .before .before .bad-address .ensures) ∙ c .before .before .before .if2 .left) (sym (c .before .before .wrong-length .ensures) ∙ c .before .if3 .taken) (c .stall .ensures)
@@ -40,14 +19,8 @@ returns-3 c = wrong-whole (c .before .before .before .before .before .before .be
 perform-requires : tie.Need-perform-requires
 perform-requires c κs = record { sizes = c .before .before .before .before .before .before .before .before .before .before .before .before .pre .sizes; formed = c .before .before .before .before .before .before .before .before .before .before .before .before .pre .formed; address-right = sym (c .before .before .before .before .before .before .bad-address .ensures) ∙ c .before .before .before .before .if2 .left; length-right = sym (c .before .before .before .wrong-length .ensures) ∙ c .before .before .if3 .left }
 
-same-length : tie.Need-same-length
-same-length c = search needs
-
-same-length-2 : tie.Need-same-length-2
-same-length-2 c = search needs
-
 returns-4 : tie.Need-returns-4
 returns-4 c = performed (c .before .before .before .before .before .before .before .before .before .before .before .before .before .before .before .before .before .args .session) (c .before .before .before .before .before .before .before .before .before .before .before .before .before .before .before .before .before .args .config) (c .before .before .before .before .before .before .before .before .before .before .before .before .before .before .before .before .before .args .flash .now) (c .before .before .before .before .before .before .before .before .before .before .before .before .before .before .before .before .before .args .eeprom .now) (c .before .before .before .before .before .before .before .before .before .before .before .before .before .before .before .before .before .args .command) (c .before .before .before .before .before .before .before .before .before .before .before .before .before .before .before .before .before .args .sent .now) _ (c .before .before .before .before .before .before .before .before .before .before .before .before .level-status .ensures ∙ ap (levelStatus (c .before .before .before .before .before .before .before .before .before .before .before .before .before .before .before .before .before .args .command)) (c .before .before .before .before .before .before .before .before .before .before .before .before .before .level-of .ensures)) (c .before .before .before .before .before .before .before .before .before .before .if1 .left) (sym (c .before .before .before .before .before .before .before .before .before .before .before .bad-address .ensures) ∙ c .before .before .before .before .before .before .before .before .before .if2 .left) (sym (c .before .before .before .before .before .before .before .before .wrong-length .ensures) ∙ c .before .before .before .before .before .before .before .if3 .left) (c .before .before .before .before .perform .ensures)
 
 pub obey-spec : {M : Type 1} → statement M
-obey-spec = tie.close (tie.spec level-of-requires level-status-requires bad-address-requires quiet-requires returns quiet-requires-2 returns-2 wrong-length-requires stall-requires returns-3 perform-requires same-length same-length-2 returns-4)
+obey-spec = tie.close (tie.spec (λ c κs. search needs) (λ c κs. search needs) (λ c κs. search needs) (λ c κs. search needs) returns (λ c κs. search needs) returns-2 (λ c κs. search needs) (λ c κs. search needs) returns-3 perform-requires (λ c. search needs) (λ c. search needs) returns-4)

@@ -19,62 +19,8 @@ module _ (k : Command) (l : Level) (i v : ℕ) (q : k ≡ WriteByte i v) where
   of-other : (i ≡ ssbIndex → ⊥) → 0x00 ≡ levelStatus k l
   of-other h = rw (q, ne-eqb i ssbIndex h)
 
-enum-told : tie.Need-enum-told
-enum-told c = search needs
-
-write-row-requires : tie.Need-write-row-requires
-write-row-requires c κs = search needs
-
-enum-told-2 : tie.Need-enum-told-2
-enum-told-2 c = search needs
-
-write-row-requires-2 : tie.Need-write-row-requires-2
-write-row-requires-2 c κs = search needs
-
-enum-told-3 : tie.Need-enum-told-3
-enum-told-3 c = search needs
-
-write-row-requires-3 : tie.Need-write-row-requires-3
-write-row-requires-3 c κs = search needs
-
-enum-told-4 : tie.Need-enum-told-4
-enum-told-4 c = search needs
-
-read-row-requires : tie.Need-read-row-requires
-read-row-requires c κs = search needs
-
-enum-told-5 : tie.Need-enum-told-5
-enum-told-5 c = search needs
-
-read-row-requires-2 : tie.Need-read-row-requires-2
-read-row-requires-2 c κs = search needs
-
-enum-known-command : tie.Need-enum-known-command
-enum-known-command c = search needs
-
-ssb-row-requires : tie.Need-ssb-row-requires
-ssb-row-requires c κs = search needs
-
 returns : tie.Need-returns
 returns c = of-ssb _ _ _ _ (c .before .before .before .command .given .1) _ (c .before .if1 .taken) (c .ssb-row .ensures)
-
-enum-told-6 : tie.Need-enum-told-6
-enum-told-6 c = search needs
-
-enum-told-7 : tie.Need-enum-told-7
-enum-told-7 c = search needs
-
-enum-told-8 : tie.Need-enum-told-8
-enum-told-8 c = search needs
-
-enum-told-9 : tie.Need-enum-told-9
-enum-told-9 c = search needs
-
-enum-told-10 : tie.Need-enum-told-10
-enum-told-10 c = search needs
-
-enum-told-11 : tie.Need-enum-told-11
-enum-told-11 c = search needs
 
 returns-2 : tie.Need-returns-2
 returns-2 c = search needs
@@ -113,4 +59,4 @@ returns-13 : tie.Need-returns-13
 returns-13 c = search needs
 
 pub level-status-spec : {M : Type 1} → statement M
-level-status-spec = tie.close (tie.spec enum-told write-row-requires enum-told-2 write-row-requires-2 enum-told-3 write-row-requires-3 enum-told-4 read-row-requires enum-told-5 read-row-requires-2 enum-known-command ssb-row-requires returns enum-told-6 enum-told-7 enum-told-8 enum-told-9 enum-told-10 enum-told-11 returns-2 returns-3 returns-4 returns-5 returns-6 returns-7 returns-8 returns-9 returns-10 returns-11 returns-12 returns-13)
+level-status-spec = tie.close (tie.spec (λ c. search needs) (λ c κs. search needs) (λ c. search needs) (λ c κs. search needs) (λ c. search needs) (λ c κs. search needs) (λ c. search needs) (λ c κs. search needs) (λ c. search needs) (λ c κs. search needs) (λ c. search needs) (λ c κs. search needs) returns (λ c. search needs) (λ c. search needs) (λ c. search needs) (λ c. search needs) (λ c. search needs) (λ c. search needs) returns-2 returns-3 returns-4 returns-5 returns-6 returns-7 returns-8 returns-9 returns-10 returns-11 returns-12 returns-13)

@@ -1,12 +1,9 @@
 -- `loader::levels::ssb_row` meets its contract: each arm is a column of the row.
 -- Assumes nothing.
-use borrow.Author.Tests.{eq-eqb, ne-eqb}
+use borrow.Author.Tests.{ne-eqb}
 use borrow.Author.Needs.{needs}
 use Rattle.loader.proofs.levels.ssb_row.Statement.{statement}
 use Rattle.loader.proofs.levels.ssb_row.Tie as tie
-
-enum-told : tie.Need-enum-told
-enum-told c = search needs
 
 returns : tie.Need-returns
 returns c = simp (c .before .enum-told .given .1, c .if1 .taken)
@@ -14,14 +11,8 @@ returns c = simp (c .before .enum-told .given .1, c .if1 .taken)
 returns-2 : tie.Need-returns-2
 returns-2 c = simp (c .before .before .enum-told .given .1, c .if2 .taken)
 
-enum-told-2 : tie.Need-enum-told-2
-enum-told-2 c = search needs
-
 returns-3 : tie.Need-returns-3
 returns-3 c = simp (c .before .enum-told2 .given .1, c .if3 .taken)
-
-enum-told-3 : tie.Need-enum-told-3
-enum-told-3 c = search needs
 
 returns-4 : tie.Need-returns-4
 returns-4 c = simp (c .before .before .enum-told .given .1, ne-eqb _ _ (c .before .if1 .left), ne-eqb _ _ (c .if2 .left))
@@ -33,4 +24,4 @@ returns-6 : tie.Need-returns-6
 returns-6 c = search needs
 
 pub ssb-row-spec : {M : Type 1} → statement M
-ssb-row-spec = tie.close (tie.spec enum-told returns returns-2 enum-told-2 returns-3 enum-told-3 returns-4 returns-5 returns-6)
+ssb-row-spec = tie.close (tie.spec (λ c. search needs) returns returns-2 (λ c. search needs) returns-3 (λ c. search needs) returns-4 returns-5 returns-6)

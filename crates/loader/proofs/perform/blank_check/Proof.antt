@@ -7,7 +7,6 @@ use native.Mathlib.Omega.{arith}
 use Rattle.board.specs.Blank.{usedIn, usedOf}
 use Rattle.board.specs.Memory.{flashAddress}
 use Rattle.board.specs.declared.address.FlashAddress.{FlashAddress}
-use Rattle.board.specs.declared.blank.Used.{Used}
 use Rattle.board.specs.declared.blank.Used.the-variants.{At, Nowhere}
 use Rattle.board.specs.declared.config.Config.{Config}
 use Rattle.command.specs.declared.command.Command.the-variants.{BlankCheck}
@@ -28,21 +27,6 @@ module _ (c : Config) (s e : FlashAddress) (a : Answer) where
   clean none q p = p
   clean (some y) q p = absurd (let n : _≡_ {A = ℕ} 0 1 = cc in omega arith)
 
-first-used-requires : tie.Need-first-used-requires
-first-used-requires c κs = search needs
-
-enum-known-address : tie.Need-enum-known-address
-enum-known-address c = search needs
-
-accepted-requires : tie.Need-accepted-requires
-accepted-requires c κs = search needs
-
-enum-told : tie.Need-enum-told
-enum-told c = search needs
-
-accepted-requires-2 : tie.Need-accepted-requires-2
-accepted-requires-2 c κs = search needs
-
 returns : tie.Need-returns
 returns c = found _ (c .before .before .before .before .before .before .args .start) (c .before .before .before .before .before .before .args .end) _ (usedIn (c .before .before .before .before .before .before .args .start .0) (c .before .before .before .before .before .before .args .end .0) (c .before .before .before .before .before .before .args .flash .now)) _ (sym (c .before .before .before .before .first-used .ensures) ∙ c .before .before .address .given .1) (c .accepted .ensures)
 
@@ -50,4 +34,4 @@ returns-2 : tie.Need-returns-2
 returns-2 c = clean _ (c .before .before .before .before .before .args .start) (c .before .before .before .before .before .args .end) _ (usedIn (c .before .before .before .before .before .args .start .0) (c .before .before .before .before .before .args .end .0) (c .before .before .before .before .before .args .flash .now)) (sym (c .before .before .before .first-used .ensures) ∙ c .before .enum-told .given .1) (c .accepted2 .ensures)
 
 pub blank-check-spec : {M : Type 1} → statement M
-blank-check-spec = tie.close (tie.spec first-used-requires enum-known-address accepted-requires enum-told accepted-requires-2 returns returns-2)
+blank-check-spec = tie.close (tie.spec (λ c κs. search needs) (λ c. search needs) (λ c κs. search needs) (λ c. search needs) (λ c κs. search needs) returns returns-2)

@@ -1,6 +1,6 @@
 -- `loader::perform::byte_of` meets its contract: a readable index has a byte.
 -- Assumes nothing.
-use mathlib.Core.Path.{_≡_, sym, _∙_}
+use mathlib.Core.Path.{_≡_, _∙_}
 use mathlib.Core.Bool.{true}
 use Prim.Native.Nat.{ℕ}
 use native.Mathlib.Omega.{arith}
@@ -23,15 +23,6 @@ module _ (c : Config) (i : ℕ) (h : readable i ≡ true) (r : ByteRead) (e : r 
   not-unknown : r ≡ Unknown → 0 ≡ configByte i c
   not-unknown q = let z = is-value in absurd (let n : _≡_ {A = ℕ} 0 1 = cc in omega arith)
 
-read-byte-requires : tie.Need-read-byte-requires
-read-byte-requires c κs = search needs
-
-enum-known-value : tie.Need-enum-known-value
-enum-known-value c = search needs
-
-enum-told : tie.Need-enum-told
-enum-told c = search needs
-
 returns : tie.Need-returns
 returns c = its-value _ _ (c .before .before .before .before .pre) _ (c .before .before .before .read-byte .ensures) _ (c .before .value .given .1)
 
@@ -39,4 +30,4 @@ returns-2 : tie.Need-returns-2
 returns-2 c = not-unknown _ _ (c .before .before .before .pre) _ (c .before .before .read-byte .ensures) (c .enum-told .given .1)
 
 pub byte-of-spec : {M : Type 1} → statement M
-byte-of-spec = tie.close (tie.spec read-byte-requires enum-known-value enum-told returns returns-2)
+byte-of-spec = tie.close (tie.spec (λ c κs. search needs) (λ c. search needs) (λ c. search needs) returns returns-2)

@@ -52,101 +52,11 @@ chip-erased c c′ d f e f′ {n} a h g p q r =
       eeprom = refl;
     }
 
-enum-known-command : tie.Need-enum-known-command
-enum-known-command c = search needs
-
 program-requires : tie.Need-program-requires
 program-requires c κs = subst (λ k. Acceptable k (c .before .before .before .before .before .before .before .before .args .sent .now) (c .before .before .before .before .before .before .before .before .args .flash .now) (c .before .before .before .before .before .before .before .before .args .eeprom .now)) (c .before .before .before .command .given .1) (c .before .before .before .before .before .before .before .before .pre)
 
-enum-known-command-2 : tie.Need-enum-known-command-2
-enum-known-command-2 c = search needs
-
-leaves-requires : tie.Need-leaves-requires
-leaves-requires c κs = search needs
-
-enum-known-command-3 : tie.Need-enum-known-command-3
-enum-known-command-3 c = search needs
-
-blank-check-requires : tie.Need-blank-check-requires
-blank-check-requires c κs = search needs
-
-enum-known-command-4 : tie.Need-enum-known-command-4
-enum-known-command-4 c = search needs
-
-erase-block-requires : tie.Need-erase-block-requires
-erase-block-requires c κs = search needs
-
-stores-requires : tie.Need-stores-requires
-stores-requires c κs = search needs
-
-enum-told : tie.Need-enum-told
-enum-told c = search needs
-
-erase-chip-requires : tie.Need-erase-chip-requires
-erase-chip-requires c κs = search needs
-
-config-after-erase-requires : tie.Need-config-after-erase-requires
-config-after-erase-requires c κs = search needs
-
-stores-requires-2 : tie.Need-stores-requires-2
-stores-requires-2 c κs = search needs
-
-enum-known-command-5 : tie.Need-enum-known-command-5
-enum-known-command-5 c = search needs
-
-write-byte-requires : tie.Need-write-byte-requires
-write-byte-requires c κs = search needs
-
-leaves-requires-2 : tie.Need-leaves-requires-2
-leaves-requires-2 c κs = search needs
-
-enum-known-command-6 : tie.Need-enum-known-command-6
-enum-known-command-6 c = search needs
-
-write-hsb-requires : tie.Need-write-hsb-requires
-write-hsb-requires c κs = search needs
-
-leaves-requires-3 : tie.Need-leaves-requires-3
-leaves-requires-3 c κs = search needs
-
-enum-told-2 : tie.Need-enum-told-2
-enum-told-2 c = search needs
-
-leaves-requires-4 : tie.Need-leaves-requires-4
-leaves-requires-4 c κs = search needs
-
-enum-known-command-7 : tie.Need-enum-known-command-7
-enum-known-command-7 c = search needs
-
-leaves-requires-5 : tie.Need-leaves-requires-5
-leaves-requires-5 c κs = search needs
-
-enum-told-3 : tie.Need-enum-told-3
-enum-told-3 c = search needs
-
-leaves-requires-6 : tie.Need-leaves-requires-6
-leaves-requires-6 c κs = search needs
-
-enum-known-command-8 : tie.Need-enum-known-command-8
-enum-known-command-8 c = search needs
-
 byte-of-requires : tie.Need-byte-of-requires
 byte-of-requires c κs = form-readable _ _ (c .before .before .before .before .before .before .pre .formed ∙ ap some (c .before .command8 .given .1))
-
-leaves-requires-7 : tie.Need-leaves-requires-7
-leaves-requires-7 c κs = search needs
-
-enum-told-4 : tie.Need-enum-told-4
-enum-told-4 c = search needs
-
-leaves-requires-8 : tie.Need-leaves-requires-8
-leaves-requires-8 c κs = search needs
-
-same-length : tie.Need-same-length
-same-length c = search needs
-
-same-length-2 : tie.Need-same-length-2
-same-length-2 c = search needs
 
 returns : tie.Need-returns
 returns c = rw (c .before .before .before .before .before .before .before .before .command .given .1) (c .before .before .before .before .program .ensures)
@@ -155,20 +65,11 @@ returns-2 : tie.Need-returns-2
 unfolding perform
 returns-2 c = rw (c .before .before .command2 .given .1) (record { answered = c .leaves .ensures; flash = refl; eeprom = refl })
 
-same-length-3 : tie.Need-same-length-3
-same-length-3 c = search needs
-
 returns-3 : tie.Need-returns-3
 returns-3 c = rw (c .before .before .before .command3 .given .1) (blank-checked _ _ _ _ _ _ _ (c .blank-check .ensures))
 
-same-length-4 : tie.Need-same-length-4
-same-length-4 c = search needs
-
 returns-4 : tie.Need-returns-4
 returns-4 c = rw (c .before .before .before .before .before .before .command4 .given .1) (block-erased _ _ _ _ _ _ _ (c .before .before .before .before .before .before .before .before .before .before .before .pre .sizes .flash-size) (c .before .before .before .erase-block .ensures .0) (c .before .before .before .erase-block .ensures .1) (c .stores .ensures))
-
-same-length-5 : tie.Need-same-length-5
-same-length-5 c = search needs
 
 returns-5 : tie.Need-returns-5
 returns-5 c = rw (c .before .before .before .before .before .before .enum-told .given .1) (chip-erased _ _ _ _ _ _ _ (c .before .before .before .before .before .before .before .before .before .before .before .pre .sizes .flash-size) (c .before .config-after-erase .ensures) (c .before .before .before .before .erase-chip .ensures .0) (c .before .before .before .before .erase-chip .ensures .1) (c .stores2 .ensures))
@@ -202,4 +103,4 @@ unfolding perform
 returns-12 c = rw (c .before .enum-told4 .given .1) (record { answered = c .leaves8 .ensures; flash = refl; eeprom = refl })
 
 pub perform-spec : {M : Type 1} → statement M
-perform-spec = tie.close (tie.spec enum-known-command program-requires enum-known-command-2 leaves-requires enum-known-command-3 blank-check-requires enum-known-command-4 erase-block-requires stores-requires enum-told erase-chip-requires config-after-erase-requires stores-requires-2 enum-known-command-5 write-byte-requires leaves-requires-2 enum-known-command-6 write-hsb-requires leaves-requires-3 enum-told-2 leaves-requires-4 enum-known-command-7 leaves-requires-5 enum-told-3 leaves-requires-6 enum-known-command-8 byte-of-requires leaves-requires-7 enum-told-4 leaves-requires-8 same-length same-length-2 returns returns-2 same-length-3 returns-3 same-length-4 returns-4 same-length-5 returns-5 returns-6 returns-7 returns-8 returns-9 returns-10 returns-11 returns-12)
+perform-spec = tie.close (tie.spec (λ c. search needs) program-requires (λ c. search needs) (λ c κs. search needs) (λ c. search needs) (λ c κs. search needs) (λ c. search needs) (λ c κs. search needs) (λ c κs. search needs) (λ c. search needs) (λ c κs. search needs) (λ c κs. search needs) (λ c κs. search needs) (λ c. search needs) (λ c κs. search needs) (λ c κs. search needs) (λ c. search needs) (λ c κs. search needs) (λ c κs. search needs) (λ c. search needs) (λ c κs. search needs) (λ c. search needs) (λ c κs. search needs) (λ c. search needs) (λ c κs. search needs) (λ c. search needs) byte-of-requires (λ c κs. search needs) (λ c. search needs) (λ c κs. search needs) (λ c. search needs) (λ c. search needs) returns returns-2 (λ c. search needs) returns-3 (λ c. search needs) returns-4 (λ c. search needs) returns-5 returns-6 returns-7 returns-8 returns-9 returns-10 returns-11 returns-12)

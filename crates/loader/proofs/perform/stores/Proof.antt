@@ -4,11 +4,8 @@ use borrow.Author.Needs.{needs}
 use Rattle.loader.proofs.perform.stores.Statement.{statement}
 use Rattle.loader.proofs.perform.stores.Tie as tie
 
-accepted-requires : tie.Need-accepted-requires
-accepted-requires c κs = search needs
-
 returns : tie.Need-returns
 returns c = c .accepted .ensures
 
 pub stores-spec : {M : Type 1} → statement M
-stores-spec = tie.close (tie.spec accepted-requires returns)
+stores-spec = tie.close (tie.spec (λ c κs. search needs) returns)

@@ -20,20 +20,14 @@ module _ (s : Session) where
   by-pending : {r : _} → knownState (s .state) ≡ true → s .status ≤ 0x0F → r ≡ badPending (s .pending) → r ≡ badSession s
   by-pending q h p = rw (q, le-ltb 0x0F (s .status) h) p
 
-known-state-requires : tie.Need-known-state-requires
-known-state-requires c κs = search needs
-
 returns : tie.Need-returns
 returns c = bad-state (c .before .before .args .session) (sym (c .before .known-state .ensures) ∙ not-true _ (c .if1 .taken))
 
 returns-2 : tie.Need-returns-2
 returns-2 c = bad-status (c .before .before .before .before .args .session) (sym (c .before .before .before .known-state .ensures) ∙ not-false _ (c .before .before .if1 .left)) (c .if2 .taken)
 
-bad-pending-requires : tie.Need-bad-pending-requires
-bad-pending-requires c κs = search needs
-
 returns-3 : tie.Need-returns-3
 returns-3 c = by-pending (c .before .before .before .before .before .args .session) (sym (c .before .before .before .before .known-state .ensures) ∙ not-false _ (c .before .before .before .if1 .left)) (c .before .if2 .left) (c .bad-pending .ensures)
 
 pub bad-session-spec : {M : Type 1} → statement M
-bad-session-spec = tie.close (tie.spec known-state-requires returns returns-2 bad-pending-requires returns-3)
+bad-session-spec = tie.close (tie.spec (λ c κs. search needs) returns returns-2 (λ c κs. search needs) returns-3)

@@ -19,9 +19,6 @@ returns-3 : tie.Need-returns-3
 unfolding refusal
 returns-3 c = simp (eq-eqb _ _ (c .before .before .if1 .left), eq-eqb _ _ (c .before .if2 .left), ne-eqb _ _ (c .if3 .taken))
 
-bad-data-requires : tie.Need-bad-data-requires
-bad-data-requires c κs = search needs
-
 returns-4 : tie.Need-returns-4
 unfolding refusal
 returns-4 c = simp (eq-eqb _ _ (c .before .before .before .before .if1 .left), eq-eqb _ _ (c .before .before .before .if2 .left), eq-eqb _ _ (c .before .before .if3 .left), sym (c .before .bad-data .ensures) ∙ c .if4 .taken)
@@ -29,9 +26,6 @@ returns-4 c = simp (eq-eqb _ _ (c .before .before .before .before .if1 .left), e
 returns-5 : tie.Need-returns-5
 unfolding refusal
 returns-5 c = simp (eq-eqb _ _ (c .before .before .before .before .before .if1 .left), eq-eqb _ _ (c .before .before .before .before .if2 .left), eq-eqb _ _ (c .before .before .before .if3 .left), sym (c .before .before .bad-data .ensures) ∙ c .before .if4 .left, lt-ltb _ _ (c .if5 .taken))
-
-bad-session-requires : tie.Need-bad-session-requires
-bad-session-requires c κs = search needs
 
 returns-6 : tie.Need-returns-6
 unfolding refusal
@@ -46,4 +40,4 @@ unfolding refusal
 returns-8 c = rw (eq-eqb _ _ (c .before .before .before .before .before .before .before .before .before .if1 .left), eq-eqb _ _ (c .before .before .before .before .before .before .before .before .if2 .left), eq-eqb _ _ (c .before .before .before .before .before .before .before .if3 .left), sym (c .before .before .before .before .before .before .bad-data .ensures) ∙ c .before .before .before .before .before .if4 .left, le-ltb _ _ (c .before .before .before .before .if5 .left), sym (c .before .before .before .bad-session .ensures) ∙ c .before .before .if6 .left, ne-eqb _ _ (c .if7 .left))
 
 pub refusal-of-spec : {M : Type 1} → statement M
-refusal-of-spec = tie.close (tie.spec returns returns-2 returns-3 bad-data-requires returns-4 returns-5 bad-session-requires returns-6 returns-7 returns-8)
+refusal-of-spec = tie.close (tie.spec returns returns-2 returns-3 (λ c κs. search needs) returns-4 returns-5 (λ c κs. search needs) returns-6 returns-7 returns-8)

@@ -19,32 +19,8 @@ by-row : (setup : List ℕ) (n : ℕ) {index code : ℕ} (r : Request) → index
 unfolding requestOf
 by-row setup n r i z e q p = rw (eq-eqb (wIndex setup) 0 (sym i ∙ z)) (p ∙ ap (λ x. requestRow x setup) (sym q ∙ e))
 
-low-at-requires : tie.Need-low-at-requires
-low-at-requires c κs = search needs
-
 returns : tie.Need-returns
 returns c = no-index _ (c .before .low-at .ensures) (c .if1 .taken)
-
-high-at-requires : tie.Need-high-at-requires
-high-at-requires c κs = search needs
-
-low-at-requires-2 : tie.Need-low-at-requires-2
-low-at-requires-2 c κs = search needs
-
-low-at-requires-3 : tie.Need-low-at-requires-3
-low-at-requires-3 c κs = search needs
-
-plain-requires : tie.Need-plain-requires
-plain-requires c κs = search needs
-
-plain-requires-2 : tie.Need-plain-requires-2
-plain-requires-2 c κs = search needs
-
-plain-requires-3 : tie.Need-plain-requires-3
-plain-requires-3 c κs = search needs
-
-plain-requires-4 : tie.Need-plain-requires-4
-plain-requires-4 c κs = search needs
 
 returns-2 : tie.Need-returns-2
 returns-2 c = by-row _ 0x2101 _ (c .before .before .before .before .low-at .ensures) (c .before .before .before .if1 .left) (c .before .before .high-at .ensures) (c .before .match .keys1) (rw (c .low-at2 .ensures))
@@ -69,4 +45,4 @@ unfolding requestOf
 returns-8 c = simp (← c .before .before .before .low-at .ensures, eq-eqb _ _ (c .before .before .if1 .left), ← c .before .high-at .ensures, ne-eqb _ _ (c .match .rest .0 .0 .0 .0 .0 .1), ne-eqb _ _ (c .match .rest .0 .0 .0 .0 .1), ne-eqb _ _ (c .match .rest .0 .0 .0 .1), ne-eqb _ _ (c .match .rest .0 .0 .1), ne-eqb _ _ (c .match .rest .0 .1), ne-eqb _ _ (c .match .rest .1))
 
 pub request-of-spec : {M : Type 1} → statement M
-request-of-spec = tie.close (tie.spec low-at-requires returns high-at-requires low-at-requires-2 low-at-requires-3 plain-requires plain-requires-2 plain-requires-3 plain-requires-4 returns-2 returns-3 returns-4 returns-5 returns-6 returns-7 returns-8)
+request-of-spec = tie.close (tie.spec (λ c κs. search needs) returns (λ c κs. search needs) (λ c κs. search needs) (λ c κs. search needs) (λ c κs. search needs) (λ c κs. search needs) (λ c κs. search needs) (λ c κs. search needs) returns-2 returns-3 returns-4 returns-5 returns-6 returns-7 returns-8)

@@ -17,24 +17,6 @@ states = 2 ∷ 3 ∷ 5 ∷ 6 ∷ 9 ∷ []
 none-of : (n : ℕ) → (n ≡ 2 → ⊥) → (n ≡ 3 → ⊥) → (n ≡ 5 → ⊥) → (n ≡ 6 → ⊥) → (n ≡ 9 → ⊥) → among n states ≡ false
 none-of n a b c d e = rw (ne-eqb n 2 a, ne-eqb n 3 b, ne-eqb n 5 c, ne-eqb n 6 d, ne-eqb n 9 e)
 
-cleared-requires : tie.Need-cleared-requires
-cleared-requires c κs = search needs
-
-cleared-requires-2 : tie.Need-cleared-requires-2
-cleared-requires-2 c κs = search needs
-
-cleared-requires-3 : tie.Need-cleared-requires-3
-cleared-requires-3 c κs = search needs
-
-cleared-requires-4 : tie.Need-cleared-requires-4
-cleared-requires-4 c κs = search needs
-
-cleared-requires-5 : tie.Need-cleared-requires-5
-cleared-requires-5 c κs = search needs
-
-stall-requires : tie.Need-stall-requires
-stall-requires c κs = search needs
-
 returns : tie.Need-returns
 returns c = clears states (c .before .before .args .session) _ _ (ap (λ n. among n states) (c .before .match .keys1)) (c .cleared .ensures)
 
@@ -54,4 +36,4 @@ returns-6 : tie.Need-returns-6
 returns-6 c = stalls states (c .before .before .args .session) _ _ (none-of _ (c .before .match .rest .0 .0 .0 .0 .1) (c .before .match .rest .0 .0 .0 .1) (c .before .match .rest .0 .0 .1) (c .before .match .rest .0 .1) (c .before .match .rest .1)) (c .stall .ensures)
 
 pub abort-spec : {M : Type 1} → statement M
-abort-spec = tie.close (tie.spec cleared-requires cleared-requires-2 cleared-requires-3 cleared-requires-4 cleared-requires-5 stall-requires returns returns-2 returns-3 returns-4 returns-5 returns-6)
+abort-spec = tie.close (tie.spec (λ c κs. search needs) (λ c κs. search needs) (λ c κs. search needs) (λ c κs. search needs) (λ c κs. search needs) (λ c κs. search needs) returns returns-2 returns-3 returns-4 returns-5 returns-6)

@@ -7,17 +7,8 @@ use borrow.Author.Needs.{needs}
 use Rattle.loader.proofs.status.get_state.Statement.{statement}
 use Rattle.loader.proofs.status.get_state.Tie as tie
 
-slice-aggregate-lay : tie.Need-slice-aggregate-lay
-slice-aggregate-lay c = search needs
-
-lay-requires : tie.Need-lay-requires
-lay-requires c κs = search needs
-
-same-length : tie.Need-same-length
-same-length c = search needs
-
 returns : tie.Need-returns
 returns c = record { answered = refl; reply = reply-laid _ _ _ (omega arith) (c .before .before .lay .ensures .1) }
 
 pub get-state-spec : {M : Type 1} → statement M
-get-state-spec = tie.close (tie.spec slice-aggregate-lay lay-requires same-length returns)
+get-state-spec = tie.close (tie.spec (λ c. search needs) (λ c κs. search needs) (λ c. search needs) returns)

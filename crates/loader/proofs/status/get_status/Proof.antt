@@ -1,6 +1,6 @@
 -- `loader::status::get_status` meets its contract.
 -- Assumes nothing.
-use mathlib.Core.Path.{_≡_, refl}
+use mathlib.Core.Path.{_≡_}
 use mathlib.Core.List.{List, [], _∷_}
 use Prim.Native.Nat.{ℕ, _≤_}
 use native.Mathlib.Omega.{arith}
@@ -24,20 +24,8 @@ told s c state p p′ h e q = record {
   reply = rw (← e) (reply-laid (s .status ∷ 0 ∷ 0 ∷ 0 ∷ state ∷ 0 ∷ []) p p′ (omega arith) q);
 }
 
-entered-requires : tie.Need-entered-requires
-entered-requires c κs = search needs
-
-slice-aggregate-lay : tie.Need-slice-aggregate-lay
-slice-aggregate-lay c = search needs
-
-lay-requires : tie.Need-lay-requires
-lay-requires c κs = search needs
-
-same-length : tie.Need-same-length
-same-length c = search needs
-
 returns : tie.Need-returns
 returns c = told (c .before .before .before .before .before .before .before .args .session) _ _ _ _ (c .before .before .before .before .before .before .before .pre) (c .before .before .before .before .before .entered .ensures) (c .before .before .lay .ensures .1)
 
 pub get-status-spec : {M : Type 1} → statement M
-get-status-spec = tie.close (tie.spec entered-requires slice-aggregate-lay lay-requires same-length returns)
+get-status-spec = tie.close (tie.spec (λ c κs. search needs) (λ c. search needs) (λ c κs. search needs) (λ c. search needs) returns)

@@ -21,17 +21,11 @@ module _ (s : Session) (c : Config) (a : Answer) where
   unfolding stall
   elsewhere q p = p ∙ rw (ne-eqb (s .state) 10 q)
 
-quiet-requires : tie.Need-quiet-requires
-quiet-requires c κs = search needs
-
 returns : tie.Need-returns
 returns c = in-ten (c .before .before .before .args .session) _ _ (c .before .if1 .taken) (c .quiet .ensures)
-
-quiet-requires-2 : tie.Need-quiet-requires-2
-quiet-requires-2 c κs = search needs
 
 returns-2 : tie.Need-returns-2
 returns-2 c = elsewhere (c .before .before .before .args .session) _ _ (c .before .if1 .left) (c .quiet2 .ensures)
 
 pub stall-spec : {M : Type 1} → statement M
-stall-spec = tie.close (tie.spec quiet-requires returns quiet-requires-2 returns-2)
+stall-spec = tie.close (tie.spec (λ c κs. search needs) returns (λ c κs. search needs) returns-2)

@@ -10,20 +10,8 @@ use borrow.Author.Needs.{needs}
 use Rattle.loader.proofs.upload.first_of.Statement.{statement}
 use Rattle.loader.proofs.upload.first_of.Tie as tie
 
-enum-known-range : tie.Need-enum-known-range
-enum-known-range c = search needs
-
-sub-t6 : tie.Need-sub-t6
-sub-t6 c = search needs
-
 add-t7 : tie.Need-add-t7
 add-t7 c = let t = subst (λ r. rangeStart r + c .before .before .before .before .args .n < 65536) (c .before .before .range .given .1) (in-word _ _ (c .before .before .before .before .pre)) in omega arith
-
-enum-known-range-2 : tie.Need-enum-known-range-2
-enum-known-range-2 c = search needs
-
-sub-t9 : tie.Need-sub-t9
-sub-t9 c = search needs
 
 add-t10 : tie.Need-add-t10
 add-t10 c = let t = subst (λ r. rangeStart r + c .before .before .before .before .args .n < 65536) (c .before .before .range2 .given .1) (in-word _ _ (c .before .before .before .before .pre)) in omega arith
@@ -35,4 +23,4 @@ returns-2 : tie.Need-returns-2
 returns-2 c = sym (ap (firstOf (c .before .before .before .before .args .n)) (c .before .before .range2 .given .1))
 
 pub first-of-spec : {M : Type 1} → statement M
-first-of-spec = tie.close (tie.spec enum-known-range sub-t6 add-t7 enum-known-range-2 sub-t9 add-t10 returns returns-2)
+first-of-spec = tie.close (tie.spec (λ c. search needs) (λ c. search needs) add-t7 (λ c. search needs) (λ c. search needs) add-t10 returns returns-2)

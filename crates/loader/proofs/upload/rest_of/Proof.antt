@@ -10,14 +10,8 @@ use borrow.Author.Needs.{needs}
 use Rattle.loader.proofs.upload.rest_of.Statement.{statement}
 use Rattle.loader.proofs.upload.rest_of.Tie as tie
 
-enum-known-range : tie.Need-enum-known-range
-enum-known-range c = search needs
-
 add-t8 : tie.Need-add-t8
 add-t8 c = let t = subst (λ r. rangeStart r + c .before .before .before .before .args .n < 65536) (c .before .before .range .given .1) (in-word _ _ (c .before .before .before .before .pre)) in omega arith
-
-enum-known-range-2 : tie.Need-enum-known-range-2
-enum-known-range-2 c = search needs
 
 add-t10 : tie.Need-add-t10
 add-t10 c = let t = subst (λ r. rangeStart r + c .before .before .before .before .args .n < 65536) (c .before .before .range2 .given .1) (in-word _ _ (c .before .before .before .before .pre)) in omega arith
@@ -29,4 +23,4 @@ returns-2 : tie.Need-returns-2
 returns-2 c = sym (ap (restOf (c .before .before .before .before .args .n)) (c .before .before .range2 .given .1))
 
 pub rest-of-spec : {M : Type 1} → statement M
-rest-of-spec = tie.close (tie.spec enum-known-range add-t8 enum-known-range-2 add-t10 returns returns-2)
+rest-of-spec = tie.close (tie.spec (λ c. search needs) add-t8 (λ c. search needs) add-t10 returns returns-2)
