@@ -11,9 +11,9 @@ use lib.Seq.{length-take-le, take-all, take-take}
 use borrow.Author.Tests.{lt-ltb, le-ltb, le-leb}
 use Rattle.words.specs.Words.{among, count, part, laid}
 use Rattle.words.proofs.WordsLaws.{overlay-front}
-use Rattle.board.specs.Memory.{rangeStart, rangeCount}
+use Rattle.board.specs.Memory.{rangeStart, rangeEnd, rangeCount, memorySize}
 use Rattle.board.specs.Level.{level}
-use Rattle.board.specs.Read.{copied, bufferAfter, readCount, readBuffer}
+use Rattle.board.specs.Read.{copied, bufferAfter, selected, readCount, readBuffer}
 use Rattle.board.specs.declared.address.FlashAddress.{FlashAddress}
 use Rattle.board.specs.declared.address.Range.{Range}
 use Rattle.board.specs.declared.address.Range.the-variants.{Flash, Eeprom}
@@ -23,8 +23,8 @@ use Rattle.command.proofs.AddressLaws.{Good, badRange-good}
 use Rattle.loader.specs.Session.{Session, idle, Pending, Nothing, MemoryRead, BlankReport, OneByte}
 use Rattle.loader.specs.Result.{Board, board, Answer, answer}
 use Rattle.loader.specs.Commands.{stall}
-use Rattle.loader.specs.Requests.{sendable, pendingBytes, pendingCount, restOf, pendingAfter, send, upload}
-use Rattle.loader.specs.Answered.{bare, Replied, Sendable, Splits, firstOf, sendPending, sentAnswer}
+use Rattle.loader.specs.Requests.{sendable, rangeContent, pendingBytes, pendingCount, restOf, pendingAfter, send, upload}
+use Rattle.loader.specs.Answered.{bare, Replied, Sizes, Sendable, Splits, firstOf, sendPending, sentAnswer}
 use Rattle.loader.proofs.StatusLaws.{reply-laid}
 
 -- the reply of a send, from its bytes and their count k
@@ -80,35 +80,42 @@ module _ (b : Board) (q : Pending) (a e n k : ℕ) (m p p′ : List ℕ) (bytes 
       none-remains b n q k p p′ (rw bytes (j ∙ how-many a e e n c m p u v inside room those))
       (rw bytes (g ∙ over-front a e e n c m p u v inside room those)) (rw all (le-ltb n (count a e) l)) h
 
--- a memory read, by its memory
+-- a memory read, by the memory that its range selects
 module _ (c : Config) (f e p : List ℕ) (n k : ℕ) (p′ : List ℕ) where
-  pub reads-first : (r : Range) {z : Answer} → Sendable n (MemoryRead r) f e p → n < rangeCount r
-      → k ≡ readCount (firstOf n r) f e p → p′ ≡ readBuffer (firstOf n r) f e p → z ≡ sentAnswer c 9 (MemoryRead (restOf n r)) k
-      → Replied (send (board idle c f e) n (MemoryRead r)) z p′ p
-  reads-first (Flash x y) h l j g q =
-      let o : Good (Flash x y) = badRange-good (Flash x y) (h .pending-right) in
-      first-part (board idle c f e) (MemoryRead (Flash x y)) (x .0) (y .0) n k f p p′ refl refl (o .forward)
-      (let s = h .ready .sizes .flash-size in let i = o .inside in omega arith) (let i = o .short in let u = h .ready .room in omega arith)
-      (h .some-asked) l j g q
-  reads-first (Eeprom x y) h l j g q =
-      let o : Good (Eeprom x y) = badRange-good (Eeprom x y) (h .pending-right) in
-      first-part (board idle c f e) (MemoryRead (Eeprom x y)) (x .0) (y .0) n k e p p′ refl refl (o .forward)
-      (let s = h .ready .sizes .eeprom-size in let i = o .inside in omega arith) (let i = o .short in let u = h .ready .room in omega arith)
-      (h .some-asked) l j g q
+  bytes-of : (r : Range) → rangeContent (board idle c f e) r ≡ part (rangeStart r) (rangeEnd r) (selected r f e)
+  bytes-of (Flash x y) = refl
+  bytes-of (Eeprom x y) = refl
 
-  pub reads-all : (r : Range) {z : Answer} → Sendable n (MemoryRead r) f e p → rangeCount r ≤ n
-      → k ≡ readCount r f e p → p′ ≡ readBuffer r f e p → z ≡ sentAnswer c 2 Nothing k
-      → Replied (send (board idle c f e) n (MemoryRead r)) z p′ p
-  reads-all (Flash x y) h l j g q =
-      let o : Good (Flash x y) = badRange-good (Flash x y) (h .pending-right) in
-      whole-part (board idle c f e) (MemoryRead (Flash x y)) (x .0) (y .0) n k f p p′ refl refl (o .forward)
-      (let s = h .ready .sizes .flash-size in let i = o .inside in omega arith) (let i = o .short in let u = h .ready .room in omega arith)
-      (h .some-asked) l j g q
-  reads-all (Eeprom x y) h l j g q =
-      let o : Good (Eeprom x y) = badRange-good (Eeprom x y) (h .pending-right) in
-      whole-part (board idle c f e) (MemoryRead (Eeprom x y)) (x .0) (y .0) n k e p p′ refl refl (o .forward)
-      (let s = h .ready .sizes .eeprom-size in let i = o .inside in omega arith) (let i = o .short in let u = h .ready .room in omega arith)
-      (h .some-asked) l j g q
+  inside-of : (r : Range) → Sizes f e → rangeEnd r < memorySize r → rangeEnd r < length (selected r f e)
+  inside-of (Flash x y) s h = let z = s .flash-size in omega arith
+  inside-of (Eeprom x y) s h = let z = s .eeprom-size in omega arith
+
+  first-count : (r : Range) → readCount (firstOf n r) f e p ≡ copied (rangeStart r) (rangeStart r + (n - 1)) (selected r f e) p
+  first-count (Flash x y) = refl
+  first-count (Eeprom x y) = refl
+
+  first-buffer : (r : Range) → readBuffer (firstOf n r) f e p ≡ bufferAfter (rangeStart r) (rangeStart r + (n - 1)) (selected r f e) p
+  first-buffer (Flash x y) = refl
+  first-buffer (Eeprom x y) = refl
+
+  module _ (r : Range) (h : Sendable n (MemoryRead r) f e p) where
+    good : Good r
+    good = badRange-good r (h .pending-right)
+
+    roomy : rangeCount r ≤ length p
+    roomy = let i = good .short in let u = h .ready .room in omega arith
+
+    pub reads-first : {z : Answer} → n < rangeCount r → k ≡ readCount (firstOf n r) f e p → p′ ≡ readBuffer (firstOf n r) f e p
+        → z ≡ sentAnswer c 9 (MemoryRead (restOf n r)) k → Replied (send (board idle c f e) n (MemoryRead r)) z p′ p
+    reads-first l j g q =
+        first-part (board idle c f e) (MemoryRead r) (rangeStart r) (rangeEnd r) n k (selected r f e) p p′ (bytes-of r) refl (good .forward)
+        (inside-of r (h .ready .sizes) (good .inside)) roomy (h .some-asked) l (j ∙ first-count r) (g ∙ first-buffer r) q
+
+    pub reads-all : {z : Answer} → rangeCount r ≤ n → k ≡ readCount r f e p → p′ ≡ readBuffer r f e p → z ≡ sentAnswer c 2 Nothing k
+        → Replied (send (board idle c f e) n (MemoryRead r)) z p′ p
+    reads-all l j g q =
+        whole-part (board idle c f e) (MemoryRead r) (rangeStart r) (rangeEnd r) n k (selected r f e) p p′ (bytes-of r) refl (good .forward)
+        (inside-of r (h .ready .sizes) (good .inside)) roomy (h .some-asked) l j g q
 
 -- a range with more than n bytes splits after them, and n bytes on is still a word
 pub splits : (r : Range) (n : ℕ) → 0 < n → n < rangeCount r → badRange r ≡ false → Splits n r

@@ -18,7 +18,7 @@ use Rattle.command.specs.declared.command.Command.{Command}
 use Rattle.loader.specs.Session.{Session, session, Pending}
 use Rattle.loader.specs.Commands.{stall}
 use Rattle.loader.specs.Requests.{sendable, send}
-use Rattle.loader.specs.Refusals.{badPending}
+use Rattle.loader.specs.Refusals.{badPending, replySize}
 use Rattle.loader.specs.Result.{Board, board, Result, Answer, answer, next, replyAfter, Done}
 
 -- what no memory is needed for: a board that has none
@@ -79,7 +79,7 @@ pub record Splits (n : ℕ) (r : Range) : Type 0 where
 -- a reply with room, and memories of their sizes
 pub record Room (f e p : List ℕ) : Type 0 where
   pub sizes : Sizes f e
-  pub room : 1024 ≤ length p
+  pub room : replySize ≤ length p
 
 -- n bytes are asked of something pending that is right
 pub record Sendable (n : ℕ) (q : Pending) (f e p : List ℕ) : Type 0 where

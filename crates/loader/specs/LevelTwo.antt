@@ -9,13 +9,14 @@ use mathlib.Core.Option.{Option, none, some}
 use Prim.Native.Nat.{ℕ, _/_, _%_, _<_}
 use lib.ListN.{length, getD}
 use Rattle.words.specs.Words.{if_then_else_}
-use Rattle.board.specs.Memory.{flashSize, eepromSize}
+use Rattle.board.specs.Memory.{flashSize}
 use Rattle.board.specs.Level.{level}
 use Rattle.board.specs.declared.level.Level.the-variants.{L2}
 use Rattle.command.specs.declared.command.Command.{Command}
 use Rattle.command.specs.declared.command.Command.the-variants.{Program, Read, BlankCheck, EraseBlock, EraseChip, WriteByte, WriteHsb, StartReset, StartAt, ReadVersion, ReadByte, ReadHsb}
 use Rattle.loader.specs.Result.{Board, next}
 use Rattle.loader.specs.Step.{Event, PowerUp, step, reports, lastSent}
+use Rattle.loader.specs.Answered.{Sizes}
 use Rattle.loader.specs.BenchCases.{Unnamed, download, askStatus}
 
 -- the same blank flash bytes: FFh at the same addresses
@@ -62,9 +63,8 @@ abbrev pub KeptSecretEver : Type 0
 KeptSecretEver = (b b′ : Board) → Alike b b′ → b .eeprom ≡ b′ .eeprom → (vs : List Event) → reports b vs ≡ reports b′ vs
 
 -- memories of their sizes
-pub record Sized (b : Board) : Type 0 where
-  pub flash-size : length (b .flash) ≡ flashSize
-  pub eeprom-size : length (b .eeprom) ≡ eepromSize
+abbrev pub Sized : Board → Type 0
+Sized b = Sizes (b .flash) (b .eeprom)
 
 -- power-up, one blank check of the address x, and GETSTATUS
 abbrev pub probe : Unnamed → ℕ → List Event

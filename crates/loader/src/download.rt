@@ -13,6 +13,10 @@ use crate::session::Pending;
 use crate::session::Session;
 use crate::status::quiet;
 use crate::status::stall;
+
+// "wLength over 1,103: stall."
+const MOST_DATA: u16 = 1103;
+
 use board::Config;
 use command::Command;
 use command::Form;
@@ -114,7 +118,7 @@ pub fn dnload(
     requires { ⌜ Sizes (now flash) (now eeprom) ⌝ }
     ensures { λ r. ⌜ Answered (boardOf session config (now (flash .entry)) (now (eeprom .entry))) (dnloadOf (boardOf session config (now (flash .entry)) (now (eeprom .entry))) n (now (sent .entry))) r (now (flash .exit)) (now (eeprom .exit)) ⌝ }
 {
-    if 1103 < n {
+    if MOST_DATA < n {
         return stall(session, config);
     }
     if n == 0 {

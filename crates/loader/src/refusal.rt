@@ -9,6 +9,11 @@ use crate::session::Session;
 use board::EEPROM_SIZE;
 use board::FLASH_SIZE;
 
+// "setup is not 8 bytes", "reply buffer is under 1,024 bytes".
+const SETUP_SIZE: usize = 8;
+
+const REPLY_SIZE: usize = 1024;
+
 fn known_state(state: u8) -> bool
     ensures { λ r. ⌜ r ≡ knownState state ⌝ }
 {
@@ -69,7 +74,7 @@ pub fn refusal_of(
 ) -> u8
     ensures { λ r. ⌜ r ≡ refusal (board session deliveredConfig (now (flash .entry)) (now (eeprom .entry))) (now (setup .entry)) (now (sent .entry)) (length (now (reply .entry))) ⌝ }
 {
-    if setup.len() != 8 {
+    if setup.len() != SETUP_SIZE {
         return 1;
     }
     if flash.len() != FLASH_SIZE {
@@ -81,7 +86,7 @@ pub fn refusal_of(
     if bad_data(setup, sent) {
         return 4;
     }
-    if reply.len() < 1024 {
+    if reply.len() < REPLY_SIZE {
         return 5;
     }
     if bad_session(session) {

@@ -7,6 +7,7 @@ ghost use Rattle.loader.specs.Session.{session as sessionOf};
 ghost use Rattle.loader.specs.Result.{reply as replyOf, answer};
 ghost use Rattle.loader.specs.Commands.{stall as stallOf};
 ghost use Rattle.loader.specs.Requests.{entered as enteredFrom, getStatus, getState, clrStatus, abort as abortOf};
+ghost use Rattle.loader.specs.Refusals.{replySize};
 ghost use Rattle.loader.specs.Answered.{bare, Replied};
 use crate::answer::Answer;
 use crate::answer::Outcome;
@@ -54,7 +55,7 @@ fn entered(state: u8) -> u8
 
 // Status, three zero bytes, the state entered, zero.
 pub fn get_status(session: Session, config: Config, reply: &mut [u8]) -> Answer
-    requires { ⌜ 1024 ≤ length (now reply) ⌝ }
+    requires { ⌜ replySize ≤ length (now reply) ⌝ }
     ensures { λ r. ⌜ Replied (getStatus (bare session config)) r (now (reply .exit)) (now (reply .entry)) ⌝ }
 {
     let state = entered(session.state);
@@ -76,7 +77,7 @@ pub fn get_status(session: Session, config: Config, reply: &mut [u8]) -> Answer
 
 // One byte, the state.
 pub fn get_state(session: Session, config: Config, reply: &mut [u8]) -> Answer
-    requires { ⌜ 1024 ≤ length (now reply) ⌝ }
+    requires { ⌜ replySize ≤ length (now reply) ⌝ }
     ensures { λ r. ⌜ Replied (getState (bare session config)) r (now (reply .exit)) (now (reply .entry)) ⌝ }
 {
     let bytes = [session.state];

@@ -6,7 +6,7 @@ ghost use lib.ListN.{length};
 ghost use Rattle.loader.specs.Session.{idle};
 ghost use Rattle.loader.specs.Result.{board as boardOf};
 ghost use Rattle.loader.specs.Requests.{restOf, send as sendOf, upload as uploadOf};
-ghost use Rattle.loader.specs.Refusals.{badPending};
+ghost use Rattle.loader.specs.Refusals.{badPending, replySize};
 ghost use Rattle.loader.specs.Answered.{bare, Replied, firstOf, Splits, Room, Sendable, sendPending, sentAnswer};
 use crate::answer::Answer;
 use crate::answer::Outcome;
@@ -80,7 +80,7 @@ fn send_read(
 // The two bytes of a blank report, high byte first; after the first alone its low byte is pending.
 fn send_report(config: Config, address: FlashAddress, n: u16, reply: &mut [u8]) -> Answer
     requires { ⌜ 0 < n ⌝ }
-    requires { ⌜ 1024 ≤ length (now reply) ⌝ }
+    requires { ⌜ replySize ≤ length (now reply) ⌝ }
     ensures { λ r. ⌜ Replied (sendOf (bare idle config) n (Pending.BlankReport address)) r (now (reply .exit)) (now (reply .entry)) ⌝ }
 {
     let high = (address.0 / 256) as u8;
@@ -95,7 +95,7 @@ fn send_report(config: Config, address: FlashAddress, n: u16, reply: &mut [u8]) 
 
 fn send_byte(config: Config, value: u8, n: u16, reply: &mut [u8]) -> Answer
     requires { ⌜ 0 < n ⌝ }
-    requires { ⌜ 1024 ≤ length (now reply) ⌝ }
+    requires { ⌜ replySize ≤ length (now reply) ⌝ }
     ensures { λ r. ⌜ Replied (sendOf (bare idle config) n (Pending.OneByte value)) r (now (reply .exit)) (now (reply .entry)) ⌝ }
 {
     words::lay(reply, 0, &[value]);
