@@ -2,5 +2,7 @@
 pub mod Field
 pub mod Verdict
 pub mod Requests
+pub mod Read
+pub mod Walk
 pub mod Text
 pub mod Line
