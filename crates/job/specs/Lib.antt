@@ -4,3 +4,4 @@ pub mod Verdict
 pub mod Requests
 pub mod Text
 pub mod Line
+pub mod Room

@@ -2,7 +2,12 @@
 //
 // No public function has a `requires`: each says what it answers for every input.
 mod line;
+mod text;
 mod verdict;
 
+pub use line::Put;
 pub use line::Word;
+pub use line::job_line;
+pub use line::refused_line;
+pub use line::request_line;
 pub use verdict::Verdict;
