@@ -9,7 +9,8 @@ use Rattle.job.specs.Line.{Word, wordText, replyText}
 pub use Rattle.job.specs.declared.line.Put.{Put}
 pub use Rattle.job.specs.declared.line.Put.the-variants.{Upto, Unwritten}
 
--- 9: "room too short"; "Later tools treat their room alike." Where the text fits, the answer is the place after it
+-- 9: "room too short"; "refusing, it leaves its room unwritten, and otherwise the room past its answer. Later tools treat their room
+-- alike.": the answer for a text from a place on is the place after it. What the room then holds is `laid` of crates/words
 unfoldable pub put : ℕ → List ℕ → List ℕ → Put
 put at text room = if fits at text room then Upto (at + length text) else Unwritten 9
 
