@@ -6,3 +6,4 @@ pub mod Read
 pub mod Walk
 pub mod Text
 pub mod Line
+pub mod Room

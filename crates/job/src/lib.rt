@@ -4,11 +4,16 @@
 mod count;
 mod field;
 mod line;
+mod text;
 mod verdict;
 mod walk;
 
 pub use count::count_requests;
+pub use line::Put;
 pub use line::Word;
+pub use line::job_line;
+pub use line::refused_line;
+pub use line::request_line;
 pub use verdict::Verdict;
 pub use verdict::check_job;
 pub use walk::Met;
