@@ -1,0 +1,54 @@
+"""The two programs that turn a job into lines, and jobs with the lines that they must print.
+
+A page of jobs is a Markdown file where each block marked `job`, a readable job, is followed by a block marked `lines`."""
+import pathlib
+import re
+import subprocess
+import sys
+
+ROOT = pathlib.Path(__file__).resolve().parents[2]
+FENCE = re.compile(r"^```(\w*)\n(.*?)^```$", re.MULTILINE | re.DOTALL)
+
+
+def run(command, given=b"", **more):
+    return subprocess.run([str(word) for word in command], input=given, capture_output=True, check=False, **more)
+
+
+def programs(stand_in):
+    """The command of each program. A stand-in takes the place of ours: it is for trying a test, and the gate gives none."""
+    built = run([ROOT / "tests/tools/second", "build"])
+    if built.returncode:
+        sys.exit(f"the second program does not build: {built.stderr.decode()}")
+    return {"bench": stand_in or [ROOT / "bench", "-"], "second": [ROOT / "target/second/release/second"]}
+
+
+def raw_of(text):
+    """The raw bytes of a readable job."""
+    made = run([ROOT / "tools/job", "raw", "-"], text.encode())
+    if made.returncode:
+        sys.exit(f"{made.stderr.decode()}in this job:\n{text}")
+    return made.stdout
+
+
+def page_jobs(page):
+    """Each job of a page: the heading above it, its text, and its lines."""
+    text = page.read_text()
+    fences = list(FENCE.finditer(text))
+    kinds = "".join(f"{fence[1]} " for fence in fences)
+    if not re.fullmatch("((sh|job lines) )*job lines ((sh|job lines) )*", kinds):
+        sys.exit(f"{page}: each job is followed by its lines, and there is no other block but sh; here stand {kinds}")
+    for job, lines in zip(fences, fences[1:]):
+        if job[1] == "job":
+            yield re.findall(r"^#+ (.*)", text[: job.start()], re.MULTILINE)[-1], job[2], lines[2]
+
+
+def differences(commands, raw, lines):
+    """A line for each program that does not print exactly these lines, or says or fails anything besides."""
+    for name, command in commands.items():
+        ended = run(command, raw)
+        if (ended.stdout, ended.stderr, ended.returncode) != (lines.encode(), b"", 0):
+            printed = ended.stdout.decode(errors="replace").splitlines()
+            first = next((n for n, pair in enumerate(zip(printed, lines.splitlines())) if pair[0] != pair[1]), None)
+            at = min(len(printed), len(lines.splitlines())) if first is None else first
+            told = printed[at][:200] if at < len(printed) else "nothing more"
+            yield f"{name}: line {at + 1} is {told!r}; status {ended.returncode} {ended.stderr.decode(errors='replace')}"
