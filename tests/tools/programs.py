@@ -1,6 +1,7 @@
 """The two programs that turn a job into lines, and jobs with the lines that they must print.
 
 A page of jobs is a Markdown file where each block marked `job`, a readable job, is followed by a block marked `lines`."""
+import itertools
 import pathlib
 import re
 import subprocess
@@ -43,12 +44,10 @@ def page_jobs(page):
 
 
 def differences(commands, raw, lines):
-    """A line for each program that does not print exactly these lines, or says or fails anything besides."""
+    """A sentence for each program that does not print exactly these lines, with status 0 and nothing on standard error."""
     for name, command in commands.items():
         ended = run(command, raw)
         if (ended.stdout, ended.stderr, ended.returncode) != (lines.encode(), b"", 0):
-            printed = ended.stdout.decode(errors="replace").splitlines()
-            first = next((n for n, pair in enumerate(zip(printed, lines.splitlines())) if pair[0] != pair[1]), None)
-            at = min(len(printed), len(lines.splitlines())) if first is None else first
-            told = printed[at][:200] if at < len(printed) else "nothing more"
-            yield f"{name}: line {at + 1} is {told!r}; status {ended.returncode} {ended.stderr.decode(errors='replace')}"
+            pairs = itertools.zip_longest(ended.stdout.decode(errors="replace").splitlines(), lines.splitlines())
+            at, told = next(((n, str(line)[:200]) for n, (line, right) in enumerate(pairs, 1) if line != right), (0, "as it should be"))
+            yield f"{name}: line {at} is {told!r}, status {ended.returncode}, said {ended.stderr.decode(errors='replace')!r}"
