@@ -16,11 +16,14 @@ def run(command, given=b"", **more):
 
 
 def programs(stand_in):
-    """The command of each program. A stand-in takes the place of ours: it is for trying a test, and the gate gives none."""
-    built = run([ROOT / "tests/tools/second", "build"])
-    if built.returncode:
-        sys.exit(f"the second program does not build: {built.stderr.decode()}")
-    return {"bench": stand_in or [ROOT / "bench", "-"], "second": [ROOT / "target/second/release/second"]}
+    """The command of each program, once both are built. A stand-in takes the place of ours: it is for trying a test, and the gate
+    gives none."""
+    ours, second = stand_in or [ROOT / "bench", "-"], [ROOT / "target/second/release/second"]
+    for building in (ours, [ROOT / "tests/tools/second", "build"]):
+        built = run(building)
+        if built.returncode:
+            sys.exit(f"{building[0]} failed: {built.stderr.decode()}")
+    return {"bench": ours, "second": second}
 
 
 def raw_of(text):
