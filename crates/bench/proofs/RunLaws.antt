@@ -25,7 +25,7 @@ use Rattle.job.specs.declared.line.Word.{Word}
 use Rattle.job.proofs.LineLaws.{requestLine-le}
 use Rattle.job.proofs.RoomLaws.{none-stands, joined, laid-stands}
 use Rattle.loader.specs.Session.{idle}
-use Rattle.loader.specs.Result.{Board, board, Result, next, answer, replyAfter}
+use Rattle.loader.specs.Result.{Board, board, Result, next}
 use Rattle.loader.specs.declared.answer.Answer.{Answer}
 use Rattle.loader.specs.Answered.{Stepped}
 use Rattle.loader.specs.Refusals.{replySize}
