@@ -1,0 +1,105 @@
+//! The functions of the static library, for a program in Rust. The layout of the numbers stands in ../specs/Layout.antt.
+
+#[link(name = "exports", kind = "static")]
+extern "C" {
+    fn loader_step(
+        session: &mut u64,
+        config: &mut u64,
+        setup: *const u8,
+        setup_size: usize,
+        sent: *const u8,
+        sent_size: usize,
+        flash: *mut u8,
+        flash_size: usize,
+        eeprom: *mut u8,
+        eeprom_size: usize,
+        reply: *mut u8,
+        reply_size: usize,
+        count: &mut usize,
+        pages: &mut usize,
+    ) -> u64;
+
+    fn loader_power_up() -> u64;
+
+    fn loader_read_command(
+        sent: *const u8,
+        sent_size: usize,
+        command: &mut u64,
+        body: &mut usize,
+        suffix: &mut usize,
+    ) -> u8;
+
+    fn loader_write_command(
+        command: u64,
+        body: *const u8,
+        body_size: usize,
+        suffix: *const u8,
+        suffix_size: usize,
+        room: *mut u8,
+        room_size: usize,
+        count: &mut usize,
+    ) -> u8;
+}
+
+/// Takes one request: the outcome, how many bytes of the reply are sent, and how many pages were stored.
+pub fn step(
+    session: &mut u64,
+    config: &mut u64,
+    setup: &[u8],
+    sent: &[u8],
+    flash: &mut [u8],
+    eeprom: &mut [u8],
+    reply: &mut [u8],
+) -> (u64, usize, usize) {
+    let (mut count, mut pages) = (0, 0);
+    // Each slice is a pointer and a length, and none overlaps another.
+    let outcome = unsafe {
+        loader_step(
+            session,
+            config,
+            setup.as_ptr(),
+            setup.len(),
+            sent.as_ptr(),
+            sent.len(),
+            flash.as_mut_ptr(),
+            flash.len(),
+            eeprom.as_mut_ptr(),
+            eeprom.len(),
+            reply.as_mut_ptr(),
+            reply.len(),
+            &mut count,
+            &mut pages,
+        )
+    };
+    (outcome, count, pages)
+}
+
+/// The session after power-up.
+pub fn power_up() -> u64 {
+    unsafe { loader_power_up() }
+}
+
+/// Reads the data of a DNLOAD: 0, 0Fh or 08h; where it is 0, the command and where its body and its suffix begin.
+pub fn read_command(sent: &[u8]) -> (u8, u64, usize, usize) {
+    let (mut command, mut body, mut suffix) = (0, 0, 0);
+    let answer = unsafe { loader_read_command(sent.as_ptr(), sent.len(), &mut command, &mut body, &mut suffix) };
+    (answer, command, body, suffix)
+}
+
+/// Writes a command into the room: 0, 8 or 9, and how many bytes were written.
+pub fn write_command(command: u64, body: &[u8], suffix: &[u8], room: &mut [u8]) -> (u8, usize) {
+    let mut count = 0;
+    let answer = unsafe {
+        loader_write_command(
+            command,
+            body.as_ptr(),
+            body.len(),
+            suffix.as_ptr(),
+            suffix.len(),
+            room.as_mut_ptr(),
+            room.len(),
+            &mut count,
+        )
+    };
+    (answer, count)
+}
