@@ -3,8 +3,8 @@
 use mathlib.Core.Path.{refl}
 use Rattle.board.specs.Memory.{blankFlash}
 use Rattle.command.specs.Form.{form}
-use Rattle.job.specs.Field.{fieldRefusal}
-use Rattle.job.specs.Verdict.{andThen, fieldsVerdict, verdict}
+use Rattle.job.specs.Field.{tagRefusal}
+use Rattle.job.specs.Verdict.{andThen, fieldVerdict, fieldsVerdict, verdict}
 use Rattle.job.specs.Requests.{requestsIn, requestsOf}
 use Rattle.job.specs.Text.{decimal}
 use Rattle.job.specs.Line.{requestLine, jobLine}
@@ -15,5 +15,5 @@ use Rattle.loader.specs.Step.{ask}
 use Rattle.bench.specs.Bench.{lines, bench, Example}
 
 pub example : Example
-unfolding bench verdict fieldsVerdict fieldRefusal andThen requestsOf requestsIn jobLine requestLine decimal lines ask refusal requestOf respond dnload form obey perform upload send blankFlash
+unfolding bench verdict fieldVerdict fieldsVerdict tagRefusal andThen requestsOf requestsIn jobLine requestLine decimal lines ask refusal requestOf respond dnload form obey perform upload send blankFlash
 example = refl

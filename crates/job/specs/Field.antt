@@ -48,11 +48,15 @@ mostDepth = 4
 abbrev pub beyond : List ℕ → ℕ → ℕ → Bool
 beyond file at end = ltb end (valueAt at) || ltb end (endAt file at)
 
--- a field's refusal, "causes tried as numbered", and 0 where it has none; `depth` groups enclose it
-unfoldable pub fieldRefusal : List ℕ → ℕ → ℕ → ℕ → ℕ
+-- what the tag refuses of a value of a size, inside `depth` groups: "causes tried as numbered", and 0 where there is none
+unfoldable pub tagRefusal : ℕ → ℕ → ℕ → ℕ
+tagRefusal tag size depth =
+    if not (among tag (requestTag ∷ groupTag ∷ noteTag ∷ [])) then 12 else
+    if eqb tag groupTag && leb mostDepth depth then 13 else
+    if eqb tag requestTag && ltb size setupSize then 14 else
+    if eqb tag noteTag && ltb mostNote size then 15 else 0
+
+-- a field's refusal, and 0 where it has none
+abbrev pub fieldRefusal : List ℕ → ℕ → ℕ → ℕ → ℕ
 fieldRefusal file at end depth =
-    if beyond file at end then 11 else
-    if not (among (tagAt file at) (requestTag ∷ groupTag ∷ noteTag ∷ [])) then 12 else
-    if eqb (tagAt file at) groupTag && leb mostDepth depth then 13 else
-    if eqb (tagAt file at) requestTag && ltb (lengthAt file at) setupSize then 14 else
-    if eqb (tagAt file at) noteTag && ltb mostNote (lengthAt file at) then 15 else 0
+    if beyond file at end then 11 else tagRefusal (tagAt file at) (lengthAt file at) depth

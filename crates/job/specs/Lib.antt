@@ -2,5 +2,8 @@
 pub mod Field
 pub mod Verdict
 pub mod Requests
+pub mod Read
+pub mod Walk
 pub mod Text
 pub mod Line
+pub mod Room

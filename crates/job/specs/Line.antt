@@ -25,6 +25,10 @@ unfoldable pub requestLine : ℕ → Word → ℕ → ℕ → ℕ → List ℕ �
 requestLine number word state status pages reply =
     decimal number ++ space ++ wordText word ++ space ++ decimal state ++ space ++ hexByte status ++ space ++ decimal pages ++ space ++ replyText reply ++ ascii "\n"
 
+-- no line for a reply of at most 1,024 bytes is longer; proved in proofs/LineLaws.antt
+abbrev pub mostLine : ℕ
+mostLine = 2139
+
 -- "`job N`", "`refused K at P`"
 unfoldable pub jobLine : ℕ → List ℕ
 jobLine n = ascii "job " ++ decimal n ++ ascii "\n"

@@ -1,6 +1,6 @@
 -- The requests of a job. Assumes nothing: these are definitions.
 use mathlib.Core.List.{List, [], _∷_, _++_}
-use Prim.Native.Nat.{ℕ, zero, suc}
+use Prim.Native.Nat.{ℕ, zero, suc, _≤_}
 use lib.Dec.{eqb}
 use lib.ListN.{length, take, drop}
 use Rattle.words.specs.Words.{if_then_else_}
@@ -40,3 +40,8 @@ setupOf file s = take setupSize (spanBytes file s)
 
 abbrev pub dataOf : List ℕ → Span → List ℕ
 dataOf file s = drop setupSize (spanBytes file s)
+
+-- "14 a request under 8 bytes": each of these has its setup
+abbrev pub HaveSetups : List Span → Type 0
+HaveSetups [] = Unit {0}
+HaveSetups (s ∷ ss) = (setupSize ≤ s .size) × HaveSetups ss

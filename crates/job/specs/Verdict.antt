@@ -13,17 +13,22 @@ unfoldable pub andThen : Verdict → Verdict → Verdict
 andThen Accepted rest = rest
 andThen (Refused k p) rest = Refused k p
 
--- the fields from a place up to `end`, inside `depth` groups: each field, then, of a group, the fields that it holds, then the
--- rest. The first number bounds the calls inside each other; a field has three bytes or more, so the file's length is enough
+-- one field, which `depth` groups enclose: its own refusal, at its tag; of a group that has none, the verdict on what it holds
+unfoldable pub fieldVerdict : Verdict → List ℕ → ℕ → ℕ → ℕ → Verdict
+fieldVerdict inside file at end depth =
+    let held = if eqb (tagAt file at) groupTag then inside else Accepted in
+    if eqb (fieldRefusal file at end depth) 0 then held else
+    Refused (fieldRefusal file at end depth) at
+
+-- the fields from a place up to `end`, inside `depth` groups: each field, then the rest. The first number bounds the calls inside
+-- each other; a field has three bytes or more, so the file's length is enough
 unfoldable pub fieldsVerdict : ℕ → List ℕ → ℕ → ℕ → ℕ → Verdict
 fieldsVerdict zero file at end depth = Accepted
 fieldsVerdict (suc n) file at end depth =
     let inside = fieldsVerdict n file (valueAt at) (endAt file at) (depth + 1) in
     let rest = fieldsVerdict n file (endAt file at) end depth in
-    let field : Verdict =
-    if eqb (fieldRefusal file at end depth) 0 then (if eqb (tagAt file at) groupTag then andThen inside rest else rest) else
-    Refused (fieldRefusal file at end depth) at in
-    if leb end at then Accepted else field
+    let fields = andThen (fieldVerdict inside file at end depth) rest in
+    if leb end at then Accepted else fields
 
 -- "At most 16,384 bytes"
 abbrev pub mostFile : ℕ

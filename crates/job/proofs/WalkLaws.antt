@@ -1,0 +1,185 @@
+-- Laws of the walk: how it goes on from a field, and that from the start of an accepted job it meets the job's requests, in order.
+-- Assumes nothing.
+use mathlib.Core.Path.{_≡_, refl, sym, ap, _∙_}
+use mathlib.Core.Logic.{⊎-elim}
+use mathlib.Core.Bool.{Bool, true, false}
+use mathlib.Core.List.{List, [], _∷_, _++_, append-assoc, append-nil}
+use Prim.Native.Nat.{ℕ, zero, suc, _+_, _≤_, _<_}
+use native.Mathlib.Omega.{arith}
+use lib.ListN.{length}
+use borrow.Author.Tests.{lt-ltb, ne-eqb}
+use Rattle.job.specs.Field.{tagAt, lengthAt, valueAt, endAt, requestTag, groupTag, beyond}
+use Rattle.job.specs.Verdict.{Verdict, Accepted, fieldsVerdict, verdict}
+use Rattle.job.specs.Requests.{Span, requestsIn, requestsOf, HaveSetups}
+use Rattle.job.specs.Walk.{Met, Request, NoMore, walkIn, walk, firstMet}
+use Rattle.job.proofs.FieldLaws.{Inside, which, lt-or-ge, eq-or-ne, fits, not-beyond-later, field-group, request-size}
+use Rattle.job.proofs.VerdictLaws.{Good, good, fields-more, both-accepted, file-accepted}
+use Rattle.job.proofs.RequestsLaws.{none-beyond, request-first, group-first, other-first}
+
+abbrev span : ℕ → ℕ → Span
+span start size = record { start = start; size = size }
+
+-- fewer than three bytes left
+pub end-beyond : (file : List ℕ) (at end : ℕ) → end ≤ at → beyond file at end ≡ true
+end-beyond file at end h = simp (lt-ltb end (valueAt at) (omega arith))
+
+in-none : (n : ℕ) (file : List ℕ) (at : ℕ) → beyond file at (length file) ≡ true → walkIn n file at ≡ []
+unfolding walkIn
+in-none zero file at b = refl
+in-none (suc n) file at b = simp b
+
+module _ (n : ℕ) (file : List ℕ) (at : ℕ) (b : beyond file at (length file) ≡ false) where
+  in-request : tagAt file at ≡ requestTag → walkIn (suc n) file at ≡ span (valueAt at) (lengthAt file at) ∷ walkIn n file (endAt file at)
+  unfolding walkIn
+  in-request t = simp (b, t)
+
+  in-group : tagAt file at ≡ groupTag → walkIn (suc n) file at ≡ walkIn n file (valueAt at)
+  unfolding walkIn
+  in-group t = simp (b, t)
+
+  in-other : (tagAt file at ≡ requestTag → ⊥) → (tagAt file at ≡ groupTag → ⊥) → walkIn (suc n) file at ≡ walkIn n file (endAt file at)
+  unfolding walkIn
+  in-other p q = simp (b, ne-eqb _ _ p, ne-eqb _ _ q)
+
+-- a bound that does for the bytes left does not matter
+enough : (n m : ℕ) (file : List ℕ) (at : ℕ) → length file ≤ at + n → length file ≤ at + m → walkIn n file at ≡ walkIn m file at
+unfolding walkIn
+enough zero m file at h k = sym (in-none m file at (end-beyond file at (length file) (omega arith)))
+enough (suc n) zero file at h k = in-none (suc n) file at (end-beyond file at (length file) (omega arith))
+enough (suc n) (suc m) file at h k = rw (enough n m file (valueAt at) (omega arith) (omega arith), enough n m file (endAt file at) (omega arith) (omega arith))
+
+one-more : (file : List ℕ) (at : ℕ) → walk file at ≡ walkIn (suc (length file)) file at
+unfolding walk
+one-more file at = enough (length file) (suc (length file)) file at (omega arith) (omega arith)
+
+pub walk-none : (file : List ℕ) (at : ℕ) → beyond file at (length file) ≡ true → walk file at ≡ []
+unfolding walk
+walk-none file at b = in-none (length file) file at b
+
+module _ (file : List ℕ) (at : ℕ) (b : beyond file at (length file) ≡ false) where
+  pub walk-request : tagAt file at ≡ requestTag → walk file at ≡ span (valueAt at) (lengthAt file at) ∷ walk file (endAt file at)
+  unfolding walk
+  walk-request t = one-more file at ∙ in-request (length file) file at b t
+
+  pub walk-group : tagAt file at ≡ groupTag → walk file at ≡ walk file (valueAt at)
+  unfolding walk
+  walk-group t = one-more file at ∙ in-group (length file) file at b t
+
+  pub walk-other : (tagAt file at ≡ requestTag → ⊥) → (tagAt file at ≡ groupTag → ⊥) → walk file at ≡ walk file (endAt file at)
+  unfolding walk
+  walk-other p q = one-more file at ∙ in-other (length file) file at b p q
+
+-- ---- a turn of the loop that walks: it began at `from` and is at `at`, with the size of the field in a local
+
+module _ (file : List ℕ) (from at : ℕ) (w : walk file from ≡ walk file at) where
+  pub turn-none : beyond file at (length file) ≡ true → NoMore ≡ firstMet (walk file from)
+  turn-none b = rw (w, walk-none file at b)
+
+  module _ (size : ℕ) (i : Inside file at (length file) size) where
+    pub turn-request : tagAt file at ≡ requestTag → Request (valueAt at) size ≡ firstMet (walk file from)
+    turn-request t = rw (w, walk-request file at (i .not-beyond) t, i .sized)
+
+    pub turn-group : tagAt file at ≡ groupTag → walk file from ≡ walk file (valueAt at)
+    turn-group t = w ∙ walk-group file at (i .not-beyond) t
+
+    pub turn-other : (tagAt file at ≡ requestTag → ⊥) → (tagAt file at ≡ groupTag → ⊥) → walk file from ≡ walk file (valueAt at + size)
+    turn-other p q = rw (w, i .sized) (walk-other file at (i .not-beyond) p q)
+
+-- ---- one step of the walk
+
+-- from a place on it meets this request, and then what it meets from behind it
+pub record Steps (file : List ℕ) (at start size : ℕ) : Type 0 where
+  pub met : walk file at ≡ span start size ∷ walk file (start + size)
+  pub after : valueAt at ≤ start
+  pub within : start + size ≤ length file
+
+-- the same from an earlier place, from which the walk meets the same
+from-earlier : (file : List ℕ) (at later start size : ℕ) → walk file at ≡ walk file later → at ≤ later → Steps file later start size → Steps file at start size
+from-earlier file at later start size e h s = record { met = e ∙ s .met; after = omega (arith, s .after); within = s .within }
+
+none-met : {A : Type 0} (file : List ℕ) (at start size : ℕ) → walk file at ≡ [] → firstMet (walk file at) ≡ Request start size → A
+none-met file at start size e f = let g : NoMore ≡ Request start size = sym (ap firstMet e) ∙ f in let z : _≡_ {A = ℕ} 0 1 = cc in absurd (omega arith)
+
+request-met : (start size start′ size′ : ℕ) → Request start size ≡ Request start′ size′ → (start ≡ start′) × (size ≡ size′)
+request-met start size start′ size′ e = (cc, cc)
+
+-- the first number bounds the bytes left
+steps-in : (n : ℕ) (file : List ℕ) (at start size : ℕ) → length file ≤ at + n → firstMet (walk file at) ≡ Request start size → Steps file at start size
+steps-in zero file at start size h f = none-met file at start size (walk-none file at (end-beyond file at (length file) (omega arith))) f
+steps-in (suc n) file at start size h f =
+    ⊎-elim
+    (λ (b : beyond file at (length file) ≡ true). none-met file at start size (walk-none file at b) f)
+    (λ (b : beyond file at (length file) ≡ false).
+    ⊎-elim
+    (λ (t : tagAt file at ≡ requestTag).
+    let w = walk-request file at b t in
+    let e = request-met _ _ _ _ (sym (ap firstMet w) ∙ f) in
+    record { met = rw (← e .0, ← e .1) w; after = omega (arith, e .0); within = omega (arith, e .0, e .1, fits file at (length file) b .1) })
+    (λ (t : tagAt file at ≡ requestTag → ⊥).
+    ⊎-elim
+    (λ (u : tagAt file at ≡ groupTag).
+    let w = walk-group file at b u in
+    from-earlier file at (valueAt at) start size w (omega arith) (steps-in n file (valueAt at) start size (omega arith) (sym (ap firstMet w) ∙ f)))
+    (λ (u : tagAt file at ≡ groupTag → ⊥).
+    let w = walk-other file at b t u in
+    from-earlier file at (endAt file at) start size w (omega arith) (steps-in n file (endAt file at) start size (omega arith) (sym (ap firstMet w) ∙ f)))
+    (eq-or-ne (tagAt file at) groupTag))
+    (eq-or-ne (tagAt file at) requestTag))
+    (which (beyond file at (length file)))
+
+pub steps : (file : List ℕ) (at start size : ℕ) → firstMet (walk file at) ≡ Request start size → Steps file at start size
+steps file at start size f = steps-in (length file) file at start size (omega arith) f
+
+pub no-more : (ss : List Span) → firstMet ss ≡ NoMore → ss ≡ []
+no-more [] e = refl
+no-more (s ∷ ss) e = let z : _≡_ {A = ℕ} 0 1 = cc in absurd (omega arith)
+
+-- ---- the requests of an accepted job
+
+setups-append : (ss ts : List Span) → HaveSetups ss → HaveSetups ts → HaveSetups (ss ++ ts)
+setups-append [] ts h k = k
+setups-append (s ∷ ss) ts h k = (h .0, setups-append ss ts (h .1) k)
+
+-- the walk from the start of a list meets the list's requests, and then those from its end on; each has its setup
+pub record Meets (file : List ℕ) (at end : ℕ) (ss : List Span) : Type 0 where
+  pub in-order : walk file at ≡ ss ++ walk file end
+  pub have-setups : HaveSetups ss
+
+meets-none : (n : ℕ) (file : List ℕ) (at end : ℕ) → at ≤ end → end ≤ at → Meets file at end (requestsIn n file at end)
+meets-none n file at end h k =
+    let e : at ≡ end = omega arith in
+    rw (none-beyond n file at end (end-beyond file at end k)) (record { in-order = rw e; have-setups = tt })
+
+pub meets : (n : ℕ) (file : List ℕ) (at end depth : ℕ) → at ≤ end → end ≤ at + n → end ≤ length file → fieldsVerdict n file at end depth ≡ Accepted
+    → Meets file at end (requestsIn n file at end)
+meets zero file at end depth h k l g = meets-none zero file at end h (omega arith)
+meets (suc n) file at end depth h k l g =
+    ⊎-elim
+    (λ (q : at < end).
+    let a = both-accepted _ _ (sym (fields-more n file at end depth q) ∙ g) in
+    let o = good _ _ _ _ _ (a .0) in
+    let b : beyond file at (length file) ≡ false = not-beyond-later file at end (length file) l (o .not-beyond) in
+    let rest = meets n file (endAt file at) end depth (o .value-fits) (omega arith) l (a .1) in
+    ⊎-elim
+    (λ (t : tagAt file at ≡ requestTag).
+    rw (request-first n file at end (o .not-beyond) t)
+    (record { in-order = walk-request file at b t ∙ ap (λ ss. span (valueAt at) (lengthAt file at) ∷ ss) (rest .in-order); have-setups = (request-size _ _ (rw t at (o .not-refused)), rest .have-setups) }))
+    (λ (t : tagAt file at ≡ requestTag → ⊥).
+    ⊎-elim
+    (λ (u : tagAt file at ≡ groupTag).
+    let inside = meets n file (valueAt at) (endAt file at) (depth + 1) (omega arith) (omega (arith, o .value-fits)) (omega (arith, o .value-fits)) (sym (field-group _ file at end depth (o .not-beyond) (o .not-refused) u) ∙ a .0) in
+    rw (group-first n file at end (o .not-beyond) u)
+    (record { in-order = walk-group file at b u ∙ inside .in-order ∙ rw (rest .in-order, append-assoc); have-setups = setups-append (requestsIn n file (valueAt at) (endAt file at)) (requestsIn n file (endAt file at) end) (inside .have-setups) (rest .have-setups) }))
+    (λ (u : tagAt file at ≡ groupTag → ⊥).
+    rw (other-first n file at end (o .not-beyond) t u) (record { in-order = walk-other file at b t u ∙ rest .in-order; have-setups = rest .have-setups }))
+    (eq-or-ne (tagAt file at) groupTag))
+    (eq-or-ne (tagAt file at) requestTag))
+    (λ (q : end ≤ at). meets-none (suc n) file at end h q)
+    (lt-or-ge at end)
+
+-- THE LAW: from the start of an accepted job the walk meets exactly the job's requests, in file order
+pub walk-job : (file : List ℕ) → verdict file ≡ Accepted → (walk file 0 ≡ requestsOf file) × HaveSetups (requestsOf file)
+unfolding requestsOf
+walk-job file g =
+    let m = meets (length file) file 0 (length file) 0 (omega arith) (omega arith) (omega arith) (file-accepted file g .1) in
+    (m .in-order ∙ rw (walk-none file (length file) (end-beyond file (length file) (length file) (omega arith)), append-nil), m .have-setups)

@@ -1,0 +1,82 @@
+-- `job::verdict::read_fields` and `read_field` meet their contracts: each arm is a line of `fieldsVerdict` or of `fieldVerdict`, at every
+-- bound that is large enough. They call each other; bytes left and depth left, added, are the number that falls.
+-- Assumes nothing.
+use mathlib.Core.Path.{sym, _∙_}
+use Prim.Native.Nat.{ℕ, _+_, _-_, _<_}
+use native.Mathlib.Omega.{arith}
+use borrow.Author.Needs.{needs}
+use Rattle.job.proofs.FieldLaws.{went-beyond, within, field-beyond, field-bad, field-single, field-group, group-depth}
+use Rattle.job.proofs.VerdictLaws.{fields-none, fields-bad, fields-next, next-bounds, read-bad, read-next, held}
+use borrow.Fn.Kinds.{In}
+use borrow.Fn.PlainCycle.{Measures, is, falls, and}
+use Rattle.job.proofs.verdict.read_field.Reads as read-field
+use Rattle.job.proofs.verdict.read_field.Kinds as read-field-kinds
+use Rattle.job.proofs.verdict.+read_field+read_fields.Lts-read_field as read-field-lts
+use Rattle.job.proofs.verdict.read_fields.Reads as read-fields
+use Rattle.job.proofs.verdict.read_fields.Kinds as read-fields-kinds
+use Rattle.job.proofs.verdict.+read_field+read_fields.Lts-read_fields as read-fields-lts
+use Rattle.job.proofs.field.reach_of.Reads as reach-of-reads
+use Rattle.job.proofs.field.tag_refusal.Reads as tag-refusal-reads
+use Rattle.job.proofs.verdict.+read_field+read_fields.{statement}
+use Rattle.job.proofs.verdict.+read_field+read_fields.Tie.{close}
+
+abbrev μ-read-field : Measures 1 read-field-kinds.ps ℕ
+μ-read-field κs a = (a .1 .1 .0 - a .1 .0) + (4 - a .1 .1 .1 .0)
+
+abbrev μ-read-fields : Measures 1 read-fields-kinds.ps ℕ
+μ-read-fields κs a = (a .1 .1 .0 - a .1 .0) + (5 - a .1 .1 .1 .0)
+
+abbrev read-field-at : ℕ → In 1 read-field-kinds.ps
+read-field-at t =
+    and 1 read-field-kinds.ps (is 1 read-field-kinds.ps μ-read-field t) read-field.Pre
+
+abbrev read-field-below : ℕ → In 1 read-field-kinds.ps
+read-field-below t =
+    and 1 read-field-kinds.ps (falls 1 read-field-kinds.ps _<_ μ-read-field t) read-field.Pre
+
+abbrev read-fields-at : ℕ → In 1 read-fields-kinds.ps
+read-fields-at t =
+    and 1 read-fields-kinds.ps (is 1 read-fields-kinds.ps μ-read-fields t) read-fields.Pre
+
+abbrev read-fields-below : ℕ → In 1 read-fields-kinds.ps
+read-fields-below t =
+    and 1 read-fields-kinds.ps (falls 1 read-fields-kinds.ps _<_ μ-read-fields t) read-fields.Pre
+
+pub +read-field+read-fields-spec : {M : Type 1} → statement M
++read-field+read-fields-spec = close μ-read-field μ-read-fields (λ t. read-field-lts.spec (
+  reach-of-reads.Asked,
+  reach-of-reads.Learnt,
+  tag-refusal-reads.Asked,
+  tag-refusal-reads.Learnt,
+  read-fields-below t,
+  read-fields.Post,
+)
+    (read-field-at t)
+    read-field.Post
+    (λ c κs. search needs)
+    (λ c. search needs)
+    (λ c. search needs)
+    (λ c n h. read-bad _ _ _ _ (field-beyond _ _ _ _ _ (went-beyond _ _ _ _ (c .before .before .reach-of .ensures) (c .enum-told .given .1))))
+    (λ c. let i = within _ _ _ _ _ (c .before .before .before .before .reach-of .ensures) (c .before .before .size .given .1) in omega (arith, i .head-fits))
+    (λ c κs. search needs)
+    (λ c n h. let i = within _ _ _ _ _ (c .before .before .before .before .before .before .reach-of .ensures) (c .before .before .before .before .size .given .1) in read-bad _ _ _ _ (field-bad _ _ _ _ _ _ (i .not-beyond) (rw (← i .sized) (sym (c .before .tag-refusal .ensures))) (c .if1 .taken)))
+    (λ c. let i = within _ _ _ _ _ (c .before .before .before .before .before .before .reach-of .ensures) (c .before .before .before .before .size .given .1) in omega (arith, i .head-fits))
+    (λ c. let i = within _ _ _ _ _ (c .before .before .before .before .before .before .reach-of .ensures) (c .before .before .before .before .size .given .1) in omega (arith, i .value-fits))
+    (λ c n h. let i = within _ _ _ _ _ (c .before .before .before .before .before .before .before .reach-of .ensures) (c .before .before .before .before .before .size .given .1) in read-next _ _ _ (field-single _ _ _ _ _ (i .not-beyond) (rw (← i .sized) (sym (c .before .before .tag-refusal .ensures) ∙ c .before .if1 .left)) (c .if2 .taken)) (omega (arith, i .sized)))
+    (λ c. omega arith)
+    (λ c κs. let i = within _ _ _ _ _ (c .before .before .before .before .before .before .before .reach-of .ensures) (c .before .before .before .before .before .size .given .1) in let d = group-depth _ _ (rw (c .if2 .left) at (sym (c .before .before .tag-refusal .ensures) ∙ c .before .if1 .left)) in (omega (arith, i .value-fits, d), (omega arith, omega (arith, i .value-fits), omega (arith, d))))
+    (λ c. search needs)
+    (λ c. search needs)
+    (λ c n h. let i = within _ _ _ _ _ (c .before .before .before .before .before .before .before .before .before .before .reach-of .ensures) (c .before .before .before .before .before .before .before .before .size .given .1) in read-next _ _ _ (field-group _ _ _ _ _ (i .not-beyond) (rw (← i .sized) (sym (c .before .before .before .before .before .tag-refusal .ensures) ∙ c .before .before .before .before .if1 .left)) (c .before .before .before .if2 .left) ∙ sym (held _ _ _ _ _ (i .sized) (c .before .before .read-fields .ensures) n (omega (arith, i .sized, i .value-fits))) ∙ c .enum-told2 .given .1) (omega (arith, i .sized)))
+    (λ c n h. let i = within _ _ _ _ _ (c .before .before .before .before .before .before .before .before .before .before .before .reach-of .ensures) (c .before .before .before .before .before .before .before .before .before .size .given .1) in read-bad _ _ _ _ (field-group _ _ _ _ _ (i .not-beyond) (rw (← i .sized) (sym (c .before .before .before .before .before .before .tag-refusal .ensures) ∙ c .before .before .before .before .before .if1 .left)) (c .before .before .before .before .if2 .left) ∙ sym (held _ _ _ _ _ (i .sized) (c .before .before .before .read-fields .ensures) n (omega (arith, i .sized, i .value-fits))) ∙ c .before .inner .given .1)))
+    λ t. read-fields-lts.spec
+    (read-field-below t, read-field.Post, read-fields-below t, read-fields.Post)
+    (read-fields-at t)
+    read-fields.Post
+    (λ c n h. fields-none _ _ _ _ _ (omega arith))
+    (λ c κs. (omega arith, (omega arith, omega arith, omega arith)))
+    (λ c. search needs)
+    (λ c κs. let b = next-bounds _ _ _ _ _ (c .before .before .before .read-field .ensures) _ (c .before .next .given .1) in (omega (arith, b), (b .1, omega arith, omega arith)))
+    (λ c. search needs)
+    (λ c. fields-next _ _ _ _ _ (c .before .before .before .before .read-field .ensures) _ _ (omega arith) (c .before .before .next .given .1) (c .read-fields .ensures))
+    (λ c. fields-bad _ _ _ _ _ (c .before .before .before .read-field .ensures) _ _ (omega arith) (c .before .number .given .1))

@@ -1,0 +1,38 @@
+// "how many requests a job holds, through all its groups".
+ghost use mathlib.Core.Path.{_≡_};
+ghost use Prim.Native.Nat.{_-_, _≤_};
+ghost use lib.ListN.{length};
+ghost use Rattle.job.specs.Requests.{requestCount};
+ghost use Rattle.job.specs.Read.{Counts};
+use crate::field::GROUP;
+use crate::field::HEAD_SIZE;
+use crate::field::REQUEST;
+use crate::field::Reach;
+use crate::field::reach_of;
+
+// The requests of the fields from a place up to `end`.
+fn count_fields(file: &[u8], at: usize, end: usize) -> usize
+    requires { ⌜ (at ≤ end) × (end ≤ length (now file)) ⌝ }
+    ensures { λ r. ⌜ Counts r (now (file .entry)) at end ⌝ }
+    ensures { λ r. ⌜ r ≤ end - at ⌝ }
+{
+    let Reach::Within(size) = reach_of(file, at, end) else {
+        return 0;
+    };
+    let value = at + HEAD_SIZE;
+    let next = value + size;
+    let rest = count_fields(file, next, end);
+    let tag = file[at];
+    match tag {
+        REQUEST => 1 + rest,
+        GROUP => count_fields(file, value, next) + rest,
+        _ => rest,
+    }
+}
+
+// The requests of a file of any bytes; a field that goes beyond what encloses it ends them there.
+pub fn count_requests(file: &[u8]) -> usize
+    ensures { λ r. ⌜ r ≡ requestCount (now (file .entry)) ⌝ }
+{
+    count_fields(file, 0, file.len())
+}
