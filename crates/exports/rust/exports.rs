@@ -39,6 +39,10 @@ extern "C" {
         room_size: usize,
         count: &mut usize,
     ) -> u8;
+
+    fn loader_check_job(file: *const u8, file_size: usize, at: &mut usize) -> u8;
+
+    fn loader_count_requests(file: *const u8, file_size: usize) -> usize;
 }
 
 /// Takes one request: the outcome, how many bytes of the reply are sent, and how many pages were stored.
@@ -102,4 +106,16 @@ pub fn write_command(command: u64, body: &[u8], suffix: &[u8], room: &mut [u8]) 
         )
     };
     (answer, count)
+}
+
+/// The verdict on a job file: 0 or the number of its refusal, and the offset of the bad field's tag.
+pub fn check_job(file: &[u8]) -> (u8, usize) {
+    let mut at = 0;
+    let number = unsafe { loader_check_job(file.as_ptr(), file.len(), &mut at) };
+    (number, at)
+}
+
+/// How many requests a job holds.
+pub fn count_requests(file: &[u8]) -> usize {
+    unsafe { loader_count_requests(file.as_ptr(), file.len()) }
 }

@@ -1,5 +1,5 @@
-// The functions that a program in another language links: the step, the command reader and the command writer, over numbers and
-// byte slices. The layout of the numbers stands in specs/Layout.antt.
+// The functions that a program in another language links: the step, the command reader and writer, the verdict on a job file and its
+// count of requests, over numbers and byte slices. The layout of the numbers stands in specs/Layout.antt.
 //
 // No public function has a `requires`: each says what it answers for every input.
 mod command_number;
@@ -12,17 +12,20 @@ ghost use mathlib.Core.Path.{_≡_};
 ghost use lib.ListN.{length};
 ghost use Rattle.command.specs.Reader.{readCommand};
 ghost use Rattle.command.specs.Writer.{writeCommand, roomAfter};
+ghost use Rattle.job.specs.Requests.{requestCount};
+ghost use Rattle.job.specs.Verdict.{verdict};
 ghost use Rattle.loader.specs.Session.{idle};
 ghost use Rattle.loader.specs.Result.{board as boardOf};
 ghost use Rattle.loader.specs.Step.{ask};
 ghost use Rattle.exports.specs.Layout.{packSession, sessionOf, configOf, commandOf};
-ghost use Rattle.exports.specs.Exported.{StepTold, readingTold, commandTold, bodyTold, suffixTold, writtenTold, lengthTold};
+ghost use Rattle.exports.specs.Exported.{StepTold, readingTold, commandTold, bodyTold, suffixTold, writtenTold, lengthTold, verdictTold, placeTold};
 use command::Reading;
 use command::Written;
 use command_number::command_of;
 use command_number::pack_command;
 use config_number::config_of;
 use config_number::pack_config;
+use job::Verdict;
 use outcome_number::pack_outcome;
 use session_number::pack_session;
 use session_number::session_of;
@@ -116,4 +119,30 @@ pub extern "C" fn loader_write_command(
             number
         }
     }
+}
+
+// The verdict on a job file: 0, or the number of its refusal. `at` gets the offset of the bad field's tag.
+#[no_mangle]
+pub extern "C" fn loader_check_job(file: &[u8], at: &mut usize) -> u8
+    ensures { λ r. ⌜ r ≡ verdictTold (verdict (now (file .entry))) ⌝ }
+    ensures { λ r. ⌜ now (at .exit) ≡ placeTold (verdict (now (file .entry))) ⌝ }
+{
+    match job::check_job(file) {
+        Verdict::Accepted => {
+            *at = 0;
+            0
+        }
+        Verdict::Refused(number, place) => {
+            *at = place;
+            number
+        }
+    }
+}
+
+// How many requests a job holds.
+#[no_mangle]
+pub extern "C" fn loader_count_requests(file: &[u8]) -> usize
+    ensures { λ r. ⌜ r ≡ requestCount (now (file .entry)) ⌝ }
+{
+    job::count_requests(file)
 }

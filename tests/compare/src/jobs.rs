@@ -92,7 +92,13 @@ pub fn job(random: &mut Random) -> Vec<u8> {
 pub fn difference(file: &[u8], tally: &mut Tally) -> Option<String> {
     let verdict = second::verdict(file);
     tally.add("job", verdict.map_or_else(|(number, _)| format!("refused {number}"), |()| "accepted".into()));
-    None
+    let (ours, expected) = (exports::check_job(file), verdict.err().unwrap_or((0, 0)));
+    if ours != expected {
+        return Some(format!("verdict: ours {ours:?}, second {expected:?}"));
+    }
+    let (ours, expected) = (exports::count_requests(file), second::count(file));
+    // 01 asks no count of a refused file, and the two programs count it each in its way.
+    (verdict.is_ok() && ours != expected).then(|| format!("requests: ours {ours}, second {expected}"))
 }
 
 /// Runs our bench program, started by these words, and compares what it prints with what the second prints.
