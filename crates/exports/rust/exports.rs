@@ -46,6 +46,7 @@ extern "C" {
 }
 
 /// Takes one request: the outcome, how many bytes of the reply are sent, and how many pages were stored.
+#[inline(always)]
 pub fn step(
     session: &mut u64,
     config: &mut u64,
@@ -79,11 +80,13 @@ pub fn step(
 }
 
 /// The session after power-up.
+#[inline(always)]
 pub fn power_up() -> u64 {
     unsafe { loader_power_up() }
 }
 
 /// Reads the data of a DNLOAD: 0, 0Fh or 08h; where it is 0, the command and where its body and its suffix begin.
+#[inline(always)]
 pub fn read_command(sent: &[u8]) -> (u8, u64, usize, usize) {
     let (mut command, mut body, mut suffix) = (0, 0, 0);
     let answer = unsafe { loader_read_command(sent.as_ptr(), sent.len(), &mut command, &mut body, &mut suffix) };
@@ -91,6 +94,7 @@ pub fn read_command(sent: &[u8]) -> (u8, u64, usize, usize) {
 }
 
 /// Writes a command into the room: 0, 8 or 9, and how many bytes were written.
+#[inline(always)]
 pub fn write_command(command: u64, body: &[u8], suffix: &[u8], room: &mut [u8]) -> (u8, usize) {
     let mut count = 0;
     let answer = unsafe {
@@ -109,6 +113,7 @@ pub fn write_command(command: u64, body: &[u8], suffix: &[u8], room: &mut [u8]) 
 }
 
 /// The verdict on a job file: 0 or the number of its refusal, and the offset of the bad field's tag.
+#[inline(always)]
 pub fn check_job(file: &[u8]) -> (u8, usize) {
     let mut at = 0;
     let number = unsafe { loader_check_job(file.as_ptr(), file.len(), &mut at) };
@@ -116,6 +121,7 @@ pub fn check_job(file: &[u8]) -> (u8, usize) {
 }
 
 /// How many requests a job holds.
+#[inline(always)]
 pub fn count_requests(file: &[u8]) -> usize {
     unsafe { loader_count_requests(file.as_ptr(), file.len()) }
 }
