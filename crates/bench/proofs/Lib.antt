@@ -1,2 +1,3 @@
--- The paper's example of the bench program.
+-- The paper's example of the bench program, and the laws of a run.
 pub mod ExampleHolds
+pub mod RunLaws

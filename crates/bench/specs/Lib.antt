@@ -1,2 +1,3 @@
--- The definitions of the bench program.
+-- The definitions of the bench program, and how it runs a job.
 pub mod Bench
+pub mod Run

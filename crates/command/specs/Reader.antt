@@ -4,9 +4,9 @@ use mathlib.Core.Option.{Option, none, some}
 use Prim.Native.Nat.{ℕ}
 use lib.ListN.{length}
 use Rattle.words.specs.Words.{if_then_else_}
-use Rattle.command.specs.Form.{form, Command, Program, Read, BlankCheck, EraseBlock, EraseChip, WriteByte, WriteHsb, StartReset, StartAt, ReadVersion, ReadByte, ReadHsb}
+use Rattle.command.specs.Form.{form, Command}
 use Rattle.command.specs.Address.{badAddress}
-use Rattle.command.specs.Transfer.{bodyPlace, suffixPlace, badLength}
+use Rattle.command.specs.Transfer.{Transfer, Of, NoTransfer, transferOf, bodyPlace, suffixPlace, badLength}
 pub use Rattle.command.specs.declared.reader.Parts.{Parts}
 pub use Rattle.command.specs.declared.reader.Reading.{Reading}
 pub use Rattle.command.specs.declared.reader.Reading.the-variants.{Taken, Stalls, BadAddress}
@@ -15,19 +15,12 @@ abbrev pub parts : ℕ → ℕ → Parts
 parts b s = record { body = b; suffix = s }
 
 -- where a program transfer's bytes and its suffix lie; no other command has any. The data is n bytes
+abbrev pub transferParts : Transfer → ℕ → Parts
+transferParts (Of r) n = parts (bodyPlace r) (suffixPlace r)
+transferParts NoTransfer n = parts n n
+
 abbrev pub partsFor : Command → ℕ → Parts
-partsFor (Program r) n = parts (bodyPlace r) (suffixPlace r)
-partsFor (Read r) n = parts n n
-partsFor (BlankCheck a e) n = parts n n
-partsFor (EraseBlock k) n = parts n n
-partsFor EraseChip n = parts n n
-partsFor (WriteByte i v) n = parts n n
-partsFor (WriteHsb v) n = parts n n
-partsFor StartReset n = parts n n
-partsFor (StartAt a) n = parts n n
-partsFor ReadVersion n = parts n n
-partsFor (ReadByte i) n = parts n n
-partsFor ReadHsb n = parts n n
+partsFor k n = transferParts (transferOf k) n
 
 abbrev pub partsOf : Command → List ℕ → Parts
 partsOf k d = partsFor k (length d)

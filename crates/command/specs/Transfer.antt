@@ -8,6 +8,8 @@ use lib.ListN.{length, take, drop}
 use Rattle.board.specs.declared.address.Range.{Range}
 use Rattle.board.specs.Memory.{rangeStart, rangeCount}
 use Rattle.command.specs.Form.{Command, Program, Read, BlankCheck, EraseBlock, EraseChip, WriteByte, WriteHsb, StartReset, StartAt, ReadVersion, ReadByte, ReadHsb}
+pub use Rattle.command.specs.declared.transfer.Transfer.{Transfer}
+pub use Rattle.command.specs.declared.transfer.Transfer.the-variants.{Of, NoTransfer}
 
 -- "32 bytes of command (26 not looked at)", "16 suffix bytes"
 abbrev pub commandSize : ℕ
@@ -41,20 +43,28 @@ bodyOf r d = take (rangeCount r) (drop (bodyPlace r) d)
 abbrev pub suffixOf : Range → List ℕ → List ℕ
 suffixOf r d = drop (suffixPlace r) d
 
+-- the range that a program transfer carries bytes for; no other command is one
+abbrev pub transferOf : Command → Transfer
+transferOf (Program r) = Of r
+transferOf (Read r) = NoTransfer
+transferOf (BlankCheck a e) = NoTransfer
+transferOf (EraseBlock k) = NoTransfer
+transferOf EraseChip = NoTransfer
+transferOf (WriteByte i v) = NoTransfer
+transferOf (WriteHsb v) = NoTransfer
+transferOf StartReset = NoTransfer
+transferOf (StartAt a) = NoTransfer
+transferOf ReadVersion = NoTransfer
+transferOf (ReadByte i) = NoTransfer
+transferOf ReadHsb = NoTransfer
+
 -- "and for program at last its whole length", of data of n bytes
+abbrev pub wrongTransfer : Transfer → ℕ → Bool
+wrongTransfer (Of r) n = not (eqb n (transferLength r))
+wrongTransfer NoTransfer n = false
+
 abbrev pub wrongLength : Command → ℕ → Bool
-wrongLength (Program r) n = not (eqb n (transferLength r))
-wrongLength (Read r) n = false
-wrongLength (BlankCheck a e) n = false
-wrongLength (EraseBlock k) n = false
-wrongLength EraseChip n = false
-wrongLength (WriteByte i v) n = false
-wrongLength (WriteHsb v) n = false
-wrongLength StartReset n = false
-wrongLength (StartAt a) n = false
-wrongLength ReadVersion n = false
-wrongLength (ReadByte i) n = false
-wrongLength ReadHsb n = false
+wrongLength k n = wrongTransfer (transferOf k) n
 
 abbrev pub badLength : Command → List ℕ → Bool
 badLength k d = wrongLength k (length d)

@@ -14,7 +14,7 @@ use Rattle.board.specs.declared.address.Block.the-variants.{Low, Middle, High}
 use Rattle.board.specs.Config.{readable, writable}
 use Rattle.command.specs.Form.{Command, Program, Read, BlankCheck, EraseBlock, EraseChip, WriteByte, WriteHsb, StartReset, StartAt, ReadVersion, ReadByte, ReadHsb}
 use Rattle.command.specs.Address.{badAddress}
-use Rattle.command.specs.Transfer.{fillerSize, suffixSize, padding}
+use Rattle.command.specs.Transfer.{Transfer, Of, NoTransfer, transferOf, fillerSize, suffixSize, padding}
 pub use Rattle.command.specs.declared.writer.Head.{Head}
 pub use Rattle.command.specs.declared.writer.Tail.{Tail}
 pub use Rattle.command.specs.declared.writer.Written.{Written}
@@ -68,19 +68,12 @@ headBytes (ReadByte i) = 0x05 ∷ 0x01 ∷ i ∷ []
 headBytes ReadHsb = 0x05 ∷ 0x02 ∷ 0x00 ∷ []
 
 -- how many zeros, bytes of the body and bytes of the suffix follow: none but in a program transfer. d and s are as many as given
+abbrev pub transferTail : Transfer → ℕ → ℕ → Tail
+transferTail (Of r) d s = record { zeros = fillerSize + padding (rangeStart r); body = d; suffix = s }
+transferTail NoTransfer d s = noTail
+
 abbrev pub tailFor : Command → ℕ → ℕ → Tail
-tailFor (Program r) d s = record { zeros = fillerSize + padding (rangeStart r); body = d; suffix = s }
-tailFor (Read r) d s = noTail
-tailFor (BlankCheck a e) d s = noTail
-tailFor (EraseBlock k) d s = noTail
-tailFor EraseChip d s = noTail
-tailFor (WriteByte i v) d s = noTail
-tailFor (WriteHsb v) d s = noTail
-tailFor StartReset d s = noTail
-tailFor (StartAt a) d s = noTail
-tailFor ReadVersion d s = noTail
-tailFor (ReadByte i) d s = noTail
-tailFor ReadHsb d s = noTail
+tailFor k d s = transferTail (transferOf k) d s
 
 -- ---- the same, as the code holds it
 

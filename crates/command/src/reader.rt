@@ -5,8 +5,10 @@ use crate::check::bad_address;
 use crate::command::Command;
 use crate::form::Form;
 use crate::form::form_of;
+use crate::transfer::Transfer;
 use crate::transfer::body_place;
 use crate::transfer::range_count;
+use crate::transfer::transfer_of;
 use crate::transfer::wrong_length;
 
 // Where a program transfer's bytes begin in the data, and where its suffix does, which ends with the data. Any other command
@@ -28,26 +30,15 @@ pub enum Reading {
 pub fn parts_of(command: Command, n: usize) -> Parts
     ensures { λ r. ⌜ r ≡ partsFor command n ⌝ }
 {
-    let none = Parts { body: n, suffix: n };
-    match command {
-        Command::Program(range) => {
+    match transfer_of(command) {
+        Transfer::Of(range) => {
             let body = body_place(range);
             Parts {
                 body,
                 suffix: body + range_count(range),
             }
         }
-        Command::Read(_) => none,
-        Command::BlankCheck(_, _) => none,
-        Command::EraseBlock(_) => none,
-        Command::EraseChip => none,
-        Command::WriteByte(_, _) => none,
-        Command::WriteHsb(_) => none,
-        Command::StartReset => none,
-        Command::StartAt(_) => none,
-        Command::ReadVersion => none,
-        Command::ReadByte(_) => none,
-        Command::ReadHsb => none,
+        Transfer::NoTransfer => Parts { body: n, suffix: n },
     }
 }
 

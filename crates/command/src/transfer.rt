@@ -3,11 +3,17 @@ ghost use mathlib.Core.Path.{_≡_};
 ghost use Prim.Native.Nat.{_≤_};
 ghost use Rattle.words.specs.Words.{count};
 ghost use Rattle.board.specs.Memory.{rangeCount};
-ghost use Rattle.command.specs.Transfer.{bodyPlace, wrongLength};
+ghost use Rattle.command.specs.Transfer.{bodyPlace, transferOf, wrongLength};
 use crate::COMMAND_SIZE;
 use crate::SUFFIX_SIZE;
 use crate::command::Command;
 use board::Range;
+
+// Whether a command is a program transfer.
+pub enum Transfer {
+    Of(Range),
+    NoTransfer,
+}
 
 // How many bytes a range has, both ends in it; 0 for one that is backward.
 pub fn range_count(range: Range) -> usize
@@ -42,22 +48,32 @@ pub fn body_place(range: Range) -> usize
     }
 }
 
+// The range that a program transfer carries bytes for; no other command is one.
+pub fn transfer_of(command: Command) -> Transfer
+    ensures { λ r. ⌜ r ≡ transferOf command ⌝ }
+{
+    match command {
+        Command::Program(range) => Transfer::Of(range),
+        Command::Read(_) => Transfer::NoTransfer,
+        Command::BlankCheck(_, _) => Transfer::NoTransfer,
+        Command::EraseBlock(_) => Transfer::NoTransfer,
+        Command::EraseChip => Transfer::NoTransfer,
+        Command::WriteByte(_, _) => Transfer::NoTransfer,
+        Command::WriteHsb(_) => Transfer::NoTransfer,
+        Command::StartReset => Transfer::NoTransfer,
+        Command::StartAt(_) => Transfer::NoTransfer,
+        Command::ReadVersion => Transfer::NoTransfer,
+        Command::ReadByte(_) => Transfer::NoTransfer,
+        Command::ReadHsb => Transfer::NoTransfer,
+    }
+}
+
 // Whether data of n bytes has not the whole length that a program transfer has to have.
 pub fn wrong_length(command: Command, n: usize) -> bool
     ensures { λ r. ⌜ r ≡ wrongLength command n ⌝ }
 {
-    match command {
-        Command::Program(range) => n != body_place(range) + range_count(range) + SUFFIX_SIZE,
-        Command::Read(_) => false,
-        Command::BlankCheck(_, _) => false,
-        Command::EraseBlock(_) => false,
-        Command::EraseChip => false,
-        Command::WriteByte(_, _) => false,
-        Command::WriteHsb(_) => false,
-        Command::StartReset => false,
-        Command::StartAt(_) => false,
-        Command::ReadVersion => false,
-        Command::ReadByte(_) => false,
-        Command::ReadHsb => false,
+    match transfer_of(command) {
+        Transfer::Of(range) => n != body_place(range) + range_count(range) + SUFFIX_SIZE,
+        Transfer::NoTransfer => false,
     }
 }

@@ -5,8 +5,10 @@ ghost use Rattle.command.specs.Writer.{Put, HeadOf, headed, rangeHead, b
 use crate::SUFFIX_SIZE;
 use crate::check::bad_address;
 use crate::command::Command;
+use crate::transfer::Transfer;
 use crate::transfer::body_place;
 use crate::transfer::range_count;
+use crate::transfer::transfer_of;
 use board::Block;
 use board::Range;
 
@@ -115,28 +117,17 @@ fn head_of(command: Command) -> Head
 fn tail_of(command: Command, body: usize, suffix: usize) -> Tail
     ensures { λ r. ⌜ r ≡ tailFor command body suffix ⌝ }
 {
-    let none = Tail {
-        zeros: 0,
-        body: 0,
-        suffix: 0,
-    };
-    match command {
-        Command::Program(range) => Tail {
+    match transfer_of(command) {
+        Transfer::Of(range) => Tail {
             zeros: body_place(range) - 6,
             body,
             suffix,
         },
-        Command::Read(_) => none,
-        Command::BlankCheck(_, _) => none,
-        Command::EraseBlock(_) => none,
-        Command::EraseChip => none,
-        Command::WriteByte(_, _) => none,
-        Command::WriteHsb(_) => none,
-        Command::StartReset => none,
-        Command::StartAt(_) => none,
-        Command::ReadVersion => none,
-        Command::ReadByte(_) => none,
-        Command::ReadHsb => none,
+        Transfer::NoTransfer => Tail {
+            zeros: 0,
+            body: 0,
+            suffix: 0,
+        },
     }
 }
 

@@ -11,7 +11,7 @@ use borrow.Author.Tests.{lt-ltb, ne-eqb}
 use Rattle.job.specs.Field.{tagAt, lengthAt, valueAt, endAt, requestTag, groupTag, beyond}
 use Rattle.job.specs.Verdict.{Verdict, Accepted, fieldsVerdict, verdict}
 use Rattle.job.specs.Requests.{Span, requestsIn, requestsOf, HaveSetups}
-use Rattle.job.specs.Walk.{Met, Request, NoMore, walkIn, walk, firstMet}
+use Rattle.job.specs.Walk.{Met, Request, NoMore, walkIn, walk, firstMet, InOrder}
 use Rattle.job.proofs.FieldLaws.{Inside, which, lt-or-ge, eq-or-ne, fits, not-beyond-later, field-group, request-size}
 use Rattle.job.proofs.VerdictLaws.{Good, good, fields-more, both-accepted, file-accepted}
 use Rattle.job.proofs.RequestsLaws.{none-beyond, request-first, group-first, other-first}
@@ -177,9 +177,12 @@ meets (suc n) file at end depth h k l g =
     (λ (q : end ≤ at). meets-none (suc n) file at end h q)
     (lt-or-ge at end)
 
--- THE LAW: from the start of an accepted job the walk meets exactly the job's requests, in file order
+-- the same of a whole job
 pub walk-job : (file : List ℕ) → verdict file ≡ Accepted → (walk file 0 ≡ requestsOf file) × HaveSetups (requestsOf file)
 unfolding requestsOf
 walk-job file g =
     let m = meets (length file) file 0 (length file) 0 (omega arith) (omega arith) (omega arith) (file-accepted file g .1) in
     (m .in-order ∙ rw (walk-none file (length file) (end-beyond file (length file) (length file) (omega arith)), append-nil), m .have-setups)
+
+pub in-order : InOrder
+in-order file g = walk-job file g .0

@@ -1,12 +1,14 @@
 -- A walk over the file that steps into each group and over any other field: how the bench program comes from one request to the next.
--- From the start of an accepted job it meets the job's requests, in file order (proofs/WalkLaws.antt). Assumes nothing.
+-- Assumes nothing: these are definitions and a statement.
+use mathlib.Core.Path.{_≡_}
 use mathlib.Core.List.{List, [], _∷_}
 use Prim.Native.Nat.{ℕ, zero, suc}
 use lib.Dec.{eqb}
 use lib.ListN.{length}
 use Rattle.words.specs.Words.{if_then_else_}
 use Rattle.job.specs.Field.{tagAt, lengthAt, valueAt, endAt, beyond, requestTag, groupTag}
-use Rattle.job.specs.Requests.{Span}
+use Rattle.job.specs.Verdict.{verdict, Accepted}
+use Rattle.job.specs.Requests.{Span, requestsOf}
 pub use Rattle.job.specs.declared.walk.Met.{Met}
 pub use Rattle.job.specs.declared.walk.Met.the-variants.{Request, NoMore}
 
@@ -29,3 +31,7 @@ walk file at = walkIn (length file) file at
 abbrev pub firstMet : List Span → Met
 firstMet [] = NoMore
 firstMet (s ∷ ss) = Request (s .start) (s .size)
+
+-- THE STATEMENT: from the start of an accepted job the walk meets exactly the job's requests, in file order
+abbrev pub InOrder : Type 0
+InOrder = (file : List ℕ) → verdict file ≡ Accepted → walk file 0 ≡ requestsOf file

@@ -1,48 +1,30 @@
 -- `command::reader::parts_of` meets its contract.
 -- Assumes nothing.
+use mathlib.Core.Path.{_≡_, sym, ap, _∙_}
+use Prim.Native.Nat.{ℕ, _+_}
 use native.Mathlib.Omega.{arith}
+use Rattle.board.specs.declared.address.Range.{Range}
+use Rattle.board.specs.Memory.{rangeCount}
+use Rattle.command.specs.Transfer.{Transfer, Of, NoTransfer, bodyPlace}
+use Rattle.command.specs.Reader.{parts, transferParts}
 use borrow.Author.Needs.{needs}
 use Rattle.command.proofs.reader.parts_of.Statement.{statement}
 use Rattle.command.proofs.reader.parts_of.Tie as tie
 
-add-t8 : tie.Need-add-t8
-add-t8 c = omega arith
+of-transfer : (t : Transfer) (r : Range) (n place bytes : ℕ) → t ≡ Of r → place ≡ bodyPlace r → bytes ≡ rangeCount r → parts place (place + bytes) ≡ transferParts t n
+of-transfer t r n place bytes q p e = rw (q, p, e)
+
+of-none : (t : Transfer) (n : ℕ) → t ≡ NoTransfer → parts n n ≡ transferParts t n
+of-none t n q = rw q
+
+add-suffix : tie.Need-add-t8
+add-suffix c = omega arith
 
 returns : tie.Need-returns
-returns c = rw (c .before .before .before .command .given .1, c .before .body-place .ensures, c .range-count .ensures .0)
+returns c = of-transfer _ _ _ _ _ (sym (c .before .before .before .before .before .transfer-of .ensures) ∙ c .before .before .before .range .given .1) (c .before .body-place .ensures) (c .range-count .ensures .0)
 
 returns-2 : tie.Need-returns-2
-returns-2 c = rw (c .enum-told .given .1)
-
-returns-3 : tie.Need-returns-3
-returns-3 c = rw (c .enum-told2 .given .1)
-
-returns-4 : tie.Need-returns-4
-returns-4 c = rw (c .enum-told3 .given .1)
-
-returns-5 : tie.Need-returns-5
-returns-5 c = rw (c .enum-told4 .given .1)
-
-returns-6 : tie.Need-returns-6
-returns-6 c = rw (c .enum-told5 .given .1)
-
-returns-7 : tie.Need-returns-7
-returns-7 c = rw (c .enum-told6 .given .1)
-
-returns-8 : tie.Need-returns-8
-returns-8 c = rw (c .enum-told7 .given .1)
-
-returns-9 : tie.Need-returns-9
-returns-9 c = rw (c .enum-told8 .given .1)
-
-returns-10 : tie.Need-returns-10
-returns-10 c = rw (c .enum-told9 .given .1)
-
-returns-11 : tie.Need-returns-11
-returns-11 c = rw (c .enum-told10 .given .1)
-
-returns-12 : tie.Need-returns-12
-returns-12 c = rw (c .enum-told11 .given .1)
+returns-2 c = of-none _ _ (sym (c .before .before .transfer-of .ensures) ∙ c .enum-told .given .1)
 
 pub parts-of-spec : {M : Type 1} → statement M
-parts-of-spec = tie.close (tie.spec (λ c. search needs) (λ c κs. search needs) (λ c κs. search needs) add-t8 (λ c. search needs) (λ c. search needs) (λ c. search needs) (λ c. search needs) (λ c. search needs) (λ c. search needs) (λ c. search needs) (λ c. search needs) (λ c. search needs) (λ c. search needs) (λ c. search needs) returns returns-2 returns-3 returns-4 returns-5 returns-6 returns-7 returns-8 returns-9 returns-10 returns-11 returns-12)
+parts-of-spec = tie.close (tie.spec (λ c κs. search needs) (λ c. search needs) (λ c κs. search needs) (λ c κs. search needs) add-suffix (λ c. search needs) returns returns-2)

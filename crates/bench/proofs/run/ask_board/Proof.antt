@@ -1,0 +1,28 @@
+-- `bench::run::ask_board` meets its contract: the parts of the file that it lends are the request's setup and data.
+-- Assumes nothing.
+use native.Mathlib.Omega.{arith}
+use borrow.Author.Needs.{needs}
+use Rattle.bench.proofs.RunLaws.{stepped-asked}
+use Rattle.bench.proofs.run.ask_board.Statement.{statement}
+use Rattle.bench.proofs.run.ask_board.Tie as tie
+
+returns : tie.Need-returns
+returns c = stepped-asked _ _ _ (c .before .before .before .before .before .before .before .before .before .before .before .before .before .before .before .before .pre .0) _ _ _ _ _ _ _ (c .before .before .before .before .before .before .before .before .before .before .before .before .before .before .before .before .pre .1) (c .before .before .before .before .before .before .step .ensures)
+
+pub ask-board-spec : {M : Type 1} → statement M
+ask-board-spec =
+    tie.close
+    (tie.spec
+    (λ c. search needs)
+    (λ c. search needs)
+    (λ c. search needs)
+    (λ c. search needs)
+    (λ c. search needs)
+    (λ c. search needs)
+    (λ c. search needs)
+    (λ c. search needs)
+    (λ c κs. search needs)
+    (λ c. search needs)
+    (λ c. search needs)
+    (λ c. search needs)
+    returns)

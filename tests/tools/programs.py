@@ -1,0 +1,56 @@
+"""The two programs that turn a job into lines, and jobs with the lines that they must print.
+
+A page of jobs is a Markdown file where each block marked `job`, a readable job, is followed by a block marked `lines`."""
+import itertools
+import pathlib
+import re
+import subprocess
+import sys
+
+ROOT = pathlib.Path(__file__).resolve().parents[2]
+FENCE = re.compile(r"^```(\w*)\n(.*?)^```$", re.MULTILINE | re.DOTALL)
+
+
+def run(command, given=b"", **more):
+    return subprocess.run([str(word) for word in command], input=given, capture_output=True, check=False, **more)
+
+
+def programs(stand_in):
+    """The command of each program, once both are built. A stand-in takes the place of ours: it is for trying a test, and the gate
+    gives none."""
+    ours, second = stand_in or [ROOT / "bench", "-"], [ROOT / "target/second/release/second"]
+    for building in (ours, [ROOT / "tests/tools/second", "build"]):
+        built = run(building)
+        if built.returncode:
+            sys.exit(f"{building[0]} failed: {built.stderr.decode()}")
+    return {"bench": ours, "second": second}
+
+
+def raw_of(text):
+    """The raw bytes of a readable job."""
+    made = run([ROOT / "tools/job", "raw", "-"], text.encode())
+    if made.returncode:
+        sys.exit(f"{made.stderr.decode()}in this job:\n{text}")
+    return made.stdout
+
+
+def page_jobs(page):
+    """Each job of a page: the heading above it, its text, and its lines."""
+    text = page.read_text()
+    fences = list(FENCE.finditer(text))
+    kinds = "".join(f"{fence[1]} " for fence in fences)
+    if not re.fullmatch("((sh|job lines) )*job lines ((sh|job lines) )*", kinds):
+        sys.exit(f"{page}: each job is followed by its lines, and there is no other block but sh; here stand {kinds}")
+    for job, lines in zip(fences, fences[1:]):
+        if job[1] == "job":
+            yield re.findall(r"^#+ (.*)", text[: job.start()], re.MULTILINE)[-1], job[2], lines[2]
+
+
+def differences(commands, raw, lines):
+    """A sentence for each program that does not print exactly these lines, with status 0 and nothing on standard error."""
+    for name, command in commands.items():
+        ended = run(command, raw)
+        if (ended.stdout, ended.stderr, ended.returncode) != (lines.encode(), b"", 0):
+            pairs = itertools.zip_longest(ended.stdout.decode(errors="replace").splitlines(), lines.splitlines())
+            at, told = next(((n, str(line)[:200]) for n, (line, right) in enumerate(pairs, 1) if line != right), (0, "as it should be"))
+            yield f"{name}: line {at} is {told!r}, status {ended.returncode}, said {ended.stderr.decode(errors='replace')!r}"
