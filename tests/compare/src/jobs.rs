@@ -3,8 +3,9 @@
 use crate::make;
 use crate::random::Random;
 use crate::tally::Tally;
+use std::collections::VecDeque;
 use std::io::Write;
-use std::process::{Command, Stdio};
+use std::process::{Child, Command, Stdio};
 
 const MOST: usize = 16_384;
 
@@ -101,15 +102,60 @@ pub fn difference(file: &[u8], tally: &mut Tally) -> Option<String> {
     (verdict.is_ok() && ours != expected).then(|| format!("requests: ours {ours}, second {expected}"))
 }
 
-/// Runs our bench program, started by these words, and compares what it prints with what the second prints.
-pub fn bench_difference(words: &[String], file: &[u8]) -> Option<String> {
+/// Our bench program, at work on some jobs at a time.
+pub struct Bench<'a> {
+    words: &'a [String],
+    running: VecDeque<(Vec<u8>, Child)>,
+}
+
+/// So many are started before the first is waited for.
+const AT_ONCE: usize = 4;
+
+impl Bench<'_> {
+    /// `words` start it; where there are none it is not run.
+    pub fn new(words: &[String]) -> Bench<'_> {
+        Bench { words, running: VecDeque::new() }
+    }
+
+    /// Hands it a job. The file of an earlier one, and what differs, where its lines are not the second program's.
+    pub fn hand(&mut self, file: &[u8], tally: &mut Tally) -> Option<(Vec<u8>, String)> {
+        if self.words.is_empty() {
+            return None;
+        }
+        tally.bench_runs += 1;
+        self.running.push_back((file.to_vec(), start(self.words, file)));
+        if self.running.len() > AT_ONCE { self.wait() } else { None }
+    }
+
+    /// Waits for the job that was handed first.
+    pub fn wait(&mut self) -> Option<(Vec<u8>, String)> {
+        let (file, child) = self.running.pop_front()?;
+        lines_difference(&file, child).map(|what| (file, what))
+    }
+
+    pub fn is_done(&self) -> bool {
+        self.running.is_empty()
+    }
+
+    /// Runs one job alone.
+    pub fn difference(&self, file: &[u8]) -> Option<String> {
+        lines_difference(file, start(self.words, file))
+    }
+}
+
+fn start(words: &[String], file: &[u8]) -> Child {
     let mut child = Command::new(&words[0])
         .args(&words[1..])
         .stdin(Stdio::piped())
         .stdout(Stdio::piped())
         .spawn()
         .expect("the bench program starts");
-    child.stdin.take().expect("its input is open").write_all(file).expect("it reads its input");
+    // A job of a length that is not refused fits into the pipe; of a longer one the program may leave some unread.
+    let _ = child.stdin.take().expect("its input is open").write_all(file);
+    child
+}
+
+fn lines_difference(file: &[u8], child: Child) -> Option<String> {
     let ours = child.wait_with_output().expect("it ends");
     let mut second = Vec::new();
     second::run(file, &mut second);
@@ -117,7 +163,7 @@ pub fn bench_difference(words: &[String], file: &[u8]) -> Option<String> {
         return None;
     }
     let (ours_text, second_text) = (String::from_utf8_lossy(&ours.stdout), String::from_utf8_lossy(&second));
-    let line = ours_text.lines().zip(second_text.lines()).position(|(a, b)| a != b).unwrap_or(0);
+    let line = ours_text.lines().zip(second_text.lines()).take_while(|(a, b)| a == b).count();
     let at = |text: &str| text.lines().nth(line).unwrap_or("nothing").to_string();
     Some(format!("bench, line {}: ours {} (ended {}), second {}", line + 1, at(&ours_text), ours.status, at(&second_text)))
 }

@@ -13,6 +13,7 @@ mod shrink;
 mod tally;
 
 use commands::Writing;
+use jobs::Bench;
 use random::Random;
 use sequence::{Pair, Sequence, Step};
 use std::process::ExitCode;
@@ -27,13 +28,19 @@ fn main() -> ExitCode {
     let words: Vec<String> = std::env::args().skip(1).collect();
     let number = |at: usize, default: u64| words.get(at).map_or(default, |word| word.parse().expect("a number"));
     let (sequences, seed) = (number(0, SEQUENCES), number(1, 1));
-    let bench = words.get(2..).unwrap_or(&[]);
+    let mut bench = Bench::new(words.get(2..).unwrap_or(&[]));
     println!("compare: {sequences} sequences and jobs from seed {seed}");
     let mut tally = Tally::default();
     for index in 0..sequences {
         let own = Random::seed_of(seed, index);
-        if let Some(what) = one(&mut Random::new(own), bench, &mut tally) {
+        if let Some(what) = one(&mut Random::new(own), &mut bench, &mut tally) {
             println!("DIFFERENCE in sequence {index} of seed {seed}\n{what}");
+            return ExitCode::FAILURE;
+        }
+    }
+    while !bench.is_done() {
+        if let Some((file, _)) = bench.wait() {
+            println!("DIFFERENCE in one of the last jobs of seed {seed}\n{}", lines_told(&bench, file));
             return ExitCode::FAILURE;
         }
     }
@@ -47,7 +54,7 @@ fn main() -> ExitCode {
 }
 
 /// One sequence of requests, the payloads in it through reader and writer, and one job.
-fn one(random: &mut Random, bench: &[String], tally: &mut Tally) -> Option<String> {
+fn one(random: &mut Random, bench: &mut Bench, tally: &mut Tally) -> Option<String> {
     let mut sequence = make::board(random);
     let mut pair = Pair::new(sequence.session, sequence.config, sequence.fill);
     for _ in 0..STEPS {
@@ -75,17 +82,21 @@ fn one(random: &mut Random, bench: &[String], tally: &mut Tally) -> Option<Strin
     job(random, bench, tally)
 }
 
-fn job(random: &mut Random, bench: &[String], tally: &mut Tally) -> Option<String> {
+fn job(random: &mut Random, bench: &mut Bench, tally: &mut Tally) -> Option<String> {
     let file = jobs::job(random);
     tally.jobs += 1;
-    let differs = |file: &[u8], tally: &mut Tally| {
-        jobs::difference(file, tally).or_else(|| if bench.is_empty() { None } else { jobs::bench_difference(bench, file) })
-    };
-    tally.bench_runs += u64::from(!bench.is_empty());
-    differs(&file, tally)?;
-    let file = shrink::bytes(file, |smaller| differs(smaller, &mut Tally::default()).is_some());
-    let what = differs(&file, &mut Tally::default()).unwrap_or_default();
-    Some(format!("job {}\n{what}", hex(&file)))
+    if jobs::difference(&file, tally).is_some() {
+        let differs = |smaller: &[u8]| jobs::difference(smaller, &mut Tally::default());
+        let file = shrink::bytes(file, |smaller| differs(smaller).is_some());
+        return Some(format!("job {}\n{}", hex(&file), differs(&file).unwrap_or_default()));
+    }
+    bench.hand(&file, tally).map(|(file, _)| lines_told(bench, file))
+}
+
+/// The smallest job of which the two bench programs print other lines.
+fn lines_told(bench: &Bench, file: Vec<u8>) -> String {
+    let file = shrink::bytes(file, |smaller| bench.difference(smaller).is_some());
+    format!("job {}\n{}", hex(&file), bench.difference(&file).unwrap_or_default())
 }
 
 fn hex(bytes: &[u8]) -> String {
