@@ -1,0 +1,127 @@
+//! The functions of the static library, for a program in Rust. The layout of the numbers stands in ../specs/Layout.antt.
+
+#[link(name = "exports", kind = "static")]
+extern "C" {
+    fn loader_step(
+        session: &mut u64,
+        config: &mut u64,
+        setup: *const u8,
+        setup_size: usize,
+        sent: *const u8,
+        sent_size: usize,
+        flash: *mut u8,
+        flash_size: usize,
+        eeprom: *mut u8,
+        eeprom_size: usize,
+        reply: *mut u8,
+        reply_size: usize,
+        count: &mut usize,
+        pages: &mut usize,
+    ) -> u64;
+
+    fn loader_power_up() -> u64;
+
+    fn loader_read_command(
+        sent: *const u8,
+        sent_size: usize,
+        command: &mut u64,
+        body: &mut usize,
+        suffix: &mut usize,
+    ) -> u8;
+
+    fn loader_write_command(
+        command: u64,
+        body: *const u8,
+        body_size: usize,
+        suffix: *const u8,
+        suffix_size: usize,
+        room: *mut u8,
+        room_size: usize,
+        count: &mut usize,
+    ) -> u8;
+
+    fn loader_check_job(file: *const u8, file_size: usize, at: &mut usize) -> u8;
+
+    fn loader_count_requests(file: *const u8, file_size: usize) -> usize;
+}
+
+/// Takes one request: the outcome, how many bytes of the reply are sent, and how many pages were stored.
+#[inline(always)]
+pub fn step(
+    session: &mut u64,
+    config: &mut u64,
+    setup: &[u8],
+    sent: &[u8],
+    flash: &mut [u8],
+    eeprom: &mut [u8],
+    reply: &mut [u8],
+) -> (u64, usize, usize) {
+    let (mut count, mut pages) = (0, 0);
+    // Each slice is a pointer and a length, and none overlaps another.
+    let outcome = unsafe {
+        loader_step(
+            session,
+            config,
+            setup.as_ptr(),
+            setup.len(),
+            sent.as_ptr(),
+            sent.len(),
+            flash.as_mut_ptr(),
+            flash.len(),
+            eeprom.as_mut_ptr(),
+            eeprom.len(),
+            reply.as_mut_ptr(),
+            reply.len(),
+            &mut count,
+            &mut pages,
+        )
+    };
+    (outcome, count, pages)
+}
+
+/// The session after power-up.
+#[inline(always)]
+pub fn power_up() -> u64 {
+    unsafe { loader_power_up() }
+}
+
+/// Reads the data of a DNLOAD: 0, 0Fh or 08h; where it is 0, the command and where its body and its suffix begin.
+#[inline(always)]
+pub fn read_command(sent: &[u8]) -> (u8, u64, usize, usize) {
+    let (mut command, mut body, mut suffix) = (0, 0, 0);
+    let answer = unsafe { loader_read_command(sent.as_ptr(), sent.len(), &mut command, &mut body, &mut suffix) };
+    (answer, command, body, suffix)
+}
+
+/// Writes a command into the room: 0, 8 or 9, and how many bytes were written.
+#[inline(always)]
+pub fn write_command(command: u64, body: &[u8], suffix: &[u8], room: &mut [u8]) -> (u8, usize) {
+    let mut count = 0;
+    let answer = unsafe {
+        loader_write_command(
+            command,
+            body.as_ptr(),
+            body.len(),
+            suffix.as_ptr(),
+            suffix.len(),
+            room.as_mut_ptr(),
+            room.len(),
+            &mut count,
+        )
+    };
+    (answer, count)
+}
+
+/// The verdict on a job file: 0 or the number of its refusal, and the offset of the bad field's tag.
+#[inline(always)]
+pub fn check_job(file: &[u8]) -> (u8, usize) {
+    let mut at = 0;
+    let number = unsafe { loader_check_job(file.as_ptr(), file.len(), &mut at) };
+    (number, at)
+}
+
+/// How many requests a job holds.
+#[inline(always)]
+pub fn count_requests(file: &[u8]) -> usize {
+    unsafe { loader_count_requests(file.as_ptr(), file.len()) }
+}

@@ -1,0 +1,133 @@
+//! Compares the loader, through the functions that crates/exports exports, with the second program.
+//!
+//! `compare [SEQUENCES [SEED [BENCH...]]]`: so many sequences and as many jobs; BENCH are the words that start our bench program.
+//! It prints how often each thing was reached, and fails at the first difference, or if something was not reached.
+
+mod commands;
+mod jobs;
+mod layout;
+mod make;
+mod random;
+mod sequence;
+mod shrink;
+mod tally;
+
+use commands::Writing;
+use jobs::Bench;
+use random::Random;
+use sequence::{Pair, Sequence, Step};
+use std::process::ExitCode;
+use tally::Tally;
+
+const SEQUENCES: u64 = 5_200;
+const STEPS: usize = 42;
+/// Writer runs of any numbers in each sequence, besides those of what was read.
+const WRITINGS: usize = 4;
+
+fn main() -> ExitCode {
+    let words: Vec<String> = std::env::args().skip(1).collect();
+    let number = |at: usize, default: u64| words.get(at).map_or(default, |word| word.parse().expect("a number"));
+    let (sequences, seed) = (number(0, SEQUENCES), number(1, 1));
+    let mut bench = Bench::new(words.get(2..).unwrap_or(&[]));
+    println!("compare: {sequences} sequences and jobs from seed {seed}");
+    let mut tally = Tally::default();
+    for index in 0..sequences {
+        let own = Random::seed_of(seed, index);
+        if let Some(what) = one(&mut Random::new(own), &mut bench, &mut tally) {
+            println!("DIFFERENCE in sequence {index} of seed {seed}\n{what}");
+            return ExitCode::FAILURE;
+        }
+    }
+    while !bench.is_done() {
+        if let Some((file, _)) = bench.wait() {
+            println!("DIFFERENCE in one of the last jobs of seed {seed}\n{}", lines_told(&bench, file));
+            return ExitCode::FAILURE;
+        }
+    }
+    println!("compare: {} requests, {} jobs, {} of them through both bench programs, no difference", tally.requests, tally.jobs, tally.bench_runs);
+    let missed = tally.report();
+    if !missed.is_empty() {
+        println!("NOT REACHED: {}", missed.join(", "));
+        return ExitCode::FAILURE;
+    }
+    ExitCode::SUCCESS
+}
+
+/// One sequence of requests, the payloads in it through reader and writer, and one job.
+fn one(random: &mut Random, bench: &mut Bench, tally: &mut Tally) -> Option<String> {
+    let mut sequence = make::board(random);
+    let mut pair = Pair::new(sequence.session, sequence.config, sequence.fill);
+    for _ in 0..STEPS {
+        let step = make::step(random, &pair.second.session);
+        sequence.steps.push(step.clone());
+        if pair.take(&step, tally).is_some() {
+            return Some(told(&shrink::sequence(sequence)));
+        }
+        if let Step::Ask(request) = step {
+            if commands::difference(&request.data, tally).is_some() {
+                let differs = |payload: &[u8]| commands::difference(payload, &mut Tally::default()).is_some();
+                let payload = shrink::bytes(request.data, differs);
+                let what = commands::difference(&payload, &mut Tally::default());
+                return Some(format!("payload {}\n{}", hex(&payload), what.unwrap_or_default()));
+            }
+        }
+    }
+    for _ in 0..WRITINGS {
+        let writing = commands::writing(random);
+        if let Some(what) = writing.difference(tally) {
+            let Writing { command, body, suffix, room } = &writing;
+            return Some(format!("command {command:X}h, body {}, suffix {}, room {room}\n{what}", hex(body), hex(suffix)));
+        }
+    }
+    job(random, bench, tally)
+}
+
+fn job(random: &mut Random, bench: &mut Bench, tally: &mut Tally) -> Option<String> {
+    let file = jobs::job(random);
+    tally.jobs += 1;
+    if jobs::difference(&file, tally).is_some() {
+        let differs = |smaller: &[u8]| jobs::difference(smaller, &mut Tally::default());
+        let file = shrink::bytes(file, |smaller| differs(smaller).is_some());
+        return Some(format!("job {}\n{}", hex(&file), differs(&file).unwrap_or_default()));
+    }
+    bench.hand(&file, tally).map(|(file, _)| lines_told(bench, file))
+}
+
+/// The smallest job of which the two bench programs print other lines.
+fn lines_told(bench: &Bench, file: Vec<u8>) -> String {
+    let file = shrink::bytes(file, |smaller| bench.difference(smaller).is_some());
+    format!("job {}\n{}", hex(&file), bench.difference(&file).unwrap_or_default())
+}
+
+fn hex(bytes: &[u8]) -> String {
+    if bytes.is_empty() {
+        return "-".into();
+    }
+    bytes.iter().map(|byte| format!("{byte:02X}")).collect()
+}
+
+/// The smallest sequence in words.
+fn told(sequence: &Sequence) -> String {
+    let (at, what) = sequence.run().unwrap_or_default();
+    let transfer = match sequence.steps.get(at) {
+        Some(Step::Ask(request)) => request.setup.starts_with(&[0x21, 1]) && request.data.first() == Some(&1),
+        _ => false,
+    };
+    let place = if transfer { "in a program transfer: " } else { "" };
+    let mut text = format!(
+        "board: session {:X}h, configuration {:X}h, memories {:?}\n",
+        sequence.session, sequence.config, sequence.fill
+    );
+    for step in &sequence.steps {
+        text += &match step {
+            Step::Ask(request) => format!(
+                "request: setup {}, data {}, flash {}, EEPROM {}, reply {}\n",
+                hex(&request.setup), hex(&request.data), request.flash, request.eeprom, request.reply
+            ),
+            Step::PowerUp => "power-up\n".into(),
+            Step::Session(n) => format!("session set to {n:X}h\n"),
+            Step::Config(n) => format!("configuration set to {n:X}h\n"),
+        };
+    }
+    text + place + &what
+}

@@ -1,0 +1,117 @@
+//! How often each thing was reached, and what has to be.
+
+use crate::layout::pending_words;
+use crate::sequence::Request;
+use second::{Answer, Config, Level, Outcome, Session, StartKind};
+use std::collections::BTreeMap;
+
+pub const STATES: [u8; 7] = [0, 2, 3, 5, 6, 9, 10];
+const PENDING: [&str; 7] =
+    ["nothing", "flash read", "EEPROM read", "blank report", "one byte", "start by reset", "start at address"];
+const COMMANDS: [&str; 16] = [
+    "program flash", "program EEPROM", "read flash", "read EEPROM", "blank check", "erase 0000h", "erase 2000h",
+    "erase 4000h", "erase chip", "write byte", "write HSB", "start by reset", "start at address", "read version",
+    "read byte", "read HSB",
+];
+const LEVELS: [&str; 3] = ["level 0", "level 1", "level 2"];
+const REQUESTS: [&str; 8] = ["DETACH", "DNLOAD", "UPLOAD", "GETSTATUS", "CLRSTATUS", "GETSTATE", "ABORT", "other"];
+
+#[derive(Default)]
+pub struct Tally {
+    counts: BTreeMap<&'static str, BTreeMap<String, u64>>,
+    pub requests: u64,
+    pub jobs: u64,
+    pub bench_runs: u64,
+}
+
+impl Tally {
+    pub fn add(&mut self, kind: &'static str, name: impl Into<String>) {
+        *self.counts.entry(kind).or_default().entry(name.into()).or_default() += 1;
+    }
+
+    pub fn before(&mut self, session: &Session, config: &Config) {
+        let state = session.state;
+        self.add("state before", if STATES.contains(&state) { state.to_string() } else { "none of these".into() });
+        self.add("pending before", PENDING[usize::from(pending_words(session.pending)[0])]);
+        let level = match config.level() {
+            Level::Zero => 0,
+            Level::One => 1,
+            Level::Two => 2,
+        };
+        self.add("level", LEVELS[level]);
+    }
+
+    pub fn after(&mut self, request: &Request, answer: &Answer, session: &Session) {
+        self.requests += 1;
+        let outcome = match answer.outcome {
+            Outcome::Done => "done",
+            Outcome::Stall => "stall",
+            Outcome::Start { kind: StartKind::Reset, .. } => "start by reset",
+            Outcome::Start { kind: StartKind::Jump, .. } => "start at address",
+            Outcome::Refused(number) => return self.add("refusal", number.to_string()),
+        };
+        self.add("outcome", outcome);
+        self.add("state after", session.state.to_string());
+        self.add("status after", format!("{:02X}", session.status));
+        self.add("pending after", PENDING[usize::from(pending_words(session.pending)[0])]);
+        self.add("pages", answer.pages.to_string());
+        self.add("request", request_name(request));
+        if answer.outcome == Outcome::Done && request.setup[..2] == [0x21, 1] && session.state == 3 {
+            if let second::Reading::Command(command, ..) = second::read_command(&request.data) {
+                self.add("command accepted", COMMANDS[crate::layout::pack_command(&command) as usize & 0xF]);
+            }
+        }
+    }
+
+    /// What a run has to have reached.
+    fn wanted() -> Vec<(&'static str, Vec<String>)> {
+        let names = |list: &[&str]| list.iter().map(|name| name.to_string()).collect::<Vec<_>>();
+        let numbers = |list: &[usize]| list.iter().map(usize::to_string).collect::<Vec<_>>();
+        let states: Vec<String> = STATES.iter().map(u8::to_string).collect();
+        let mut before = states.clone();
+        before.push("none of these".into());
+        vec![
+            ("outcome", names(&["done", "stall", "start by reset", "start at address"])),
+            ("refusal", numbers(&[1, 2, 3, 4, 5, 6, 7])),
+            ("request", names(&REQUESTS)),
+            ("state before", before),
+            ("state after", states),
+            ("status after", (0..16).map(|status| format!("{status:02X}")).collect()),
+            ("pending before", names(&PENDING)),
+            ("pending after", names(&PENDING)),
+            ("level", names(&LEVELS)),
+            ("command accepted", names(&COMMANDS)),
+            ("pages", numbers(&[0, 1, 2, 3, 4, 5, 6, 7, 8, 9, 64, 128, 256])),
+            ("reader", names(&["command", "stall", "08h"])),
+            ("writer", names(&["written", "refused 8", "refused 9"])),
+            ("job", names(&["accepted", "refused 11", "refused 12", "refused 13", "refused 14", "refused 15", "refused 16"])),
+        ]
+    }
+
+    /// Prints every count, and gives what was wanted and not reached.
+    pub fn report(&self) -> Vec<String> {
+        let mut missed = Vec::new();
+        for (kind, names) in Tally::wanted() {
+            let found = self.counts.get(kind);
+            let count = |name: &String| found.and_then(|found| found.get(name)).copied().unwrap_or(0);
+            let line: Vec<String> = names.iter().map(|name| format!("{name}: {}", count(name))).collect();
+            println!("  {kind}: {}", line.join(", "));
+            missed.extend(names.iter().filter(|&name| count(name) == 0).map(|name| format!("{kind} {name}")));
+        }
+        missed
+    }
+}
+
+fn request_name(request: &Request) -> &'static str {
+    let code = (request.setup[0], request.setup[1]);
+    match code {
+        (0x21, 0) => "DETACH",
+        (0x21, 1) => "DNLOAD",
+        (0xA1, 2) => "UPLOAD",
+        (0xA1, 3) => "GETSTATUS",
+        (0x21, 4) => "CLRSTATUS",
+        (0xA1, 5) => "GETSTATE",
+        (0x21, 6) => "ABORT",
+        _ => "other",
+    }
+}
