@@ -4,7 +4,7 @@ use mathlib.Core.Path.{_≡_, refl, sym, ap, _∙_}
 use mathlib.Core.Bool.{Bool}
 use mathlib.Core.List.{List, [], _∷_, map}
 use mathlib.Core.Option.{Option, none, some}
-use Prim.Native.Nat.{ℕ, zero, suc, _+_, _-_, _≤_, _<_, min, suc-le-suc}
+use Prim.Native.Nat.{ℕ, zero, suc, _+_, _-_, _≤_, _<_, min, max, suc-le-suc}
 use native.Mathlib.Nat.{add-zero, zero-add, suc-add, add-suc, le-of-suc-le-suc, not-suc-le-zero, zero-lt-suc}
 use native.Mathlib.Omega.{arith}
 use lib.Dec.{eqb}
@@ -13,7 +13,7 @@ use lib.ListN.{length, take, drop, getD, length-drop}
 use lib.Seq.{drop-cons, take-all}
 use borrow.Author.Tests.{eq-eqb, ne-eqb}
 use Rattle.words.specs.Words.{if_then_else_, part}
-use Rattle.board.specs.Blank.{firstUsed, usedIn}
+use Rattle.board.specs.Blank.{firstUsed, AllBlank, usedIn}
 use Rattle.words.proofs.WordsLaws.{part-whole}
 
 -- FFh at each place before x, and not at x: x is found
@@ -105,3 +105,37 @@ unfolding usedBefore
 usedBefore-end stop i f h =
     let n : stop - i ≡ 0 = omega arith in
     rw n
+
+-- ---- the search in strides: bytes that are all FFh are passed together
+
+all-more-by : (a b : ℕ) (f : List ℕ) → AllBlank a b f → getD f b 0 ≡ 0xFF → (i : ℕ) → a ≤ i → i < b + 1 → Dec (suc i ≤ b) → getD f i 0 ≡ 0xFF
+all-more-by a b f p q i h k (yes l) = p i h l
+all-more-by a b f p q i h k (no l) = let e : i ≡ b = omega arith in rw e q
+
+pub all-more : (a b : ℕ) (f : List ℕ) → AllBlank a b f → getD f b 0 ≡ 0xFF → AllBlank a (b + 1) f
+all-more a b f p q i h k = all-more-by a b f p q i h k (decLe (suc i) b)
+
+all-joined-by : (a b c : ℕ) (f : List ℕ) → AllBlank a b f → AllBlank b c f → (i : ℕ) → a ≤ i → i < c → Dec (suc i ≤ b) → getD f i 0 ≡ 0xFF
+all-joined-by a b c f p q i h k (yes l) = p i h l
+all-joined-by a b c f p q i h k (no l) = q i (omega arith) k
+
+pub all-joined : (a b c : ℕ) (f : List ℕ) → AllBlank a b f → AllBlank b c f → AllBlank a c f
+all-joined a b c f p q i h k = all-joined-by a b c f p q i h k (decLe (suc i) b)
+
+-- the search from i on finds what it finds from n places later on
+usedBefore-skip : (n stop i : ℕ) (f : List ℕ) → i + n ≤ stop → stop ≤ length f → AllBlank i (i + n) f → usedBefore stop i f ≡ usedBefore stop (i + n) f
+usedBefore-skip zero stop i f h l p = ap (λ k. usedBefore stop k f) (sym (add-zero i))
+usedBefore-skip (suc n) stop i f h l p =
+    let e : suc i + n ≡ i + suc n = omega arith in
+    usedBefore-past stop i f (omega arith) l (p i (omega arith) (omega arith))
+    ∙ usedBefore-skip n stop (suc i) f (omega arith) l (λ j a b. p j (omega arith) (omega arith))
+    ∙ ap (λ k. usedBefore stop k f) e
+
+passed-by : (stop a r : ℕ) (f : List ℕ) → stop ≤ length f → AllBlank a r f → (a ≤ r) × (r ≤ max a stop) → Dec (a ≤ stop) → usedBefore stop a f ≡ usedBefore stop r f
+passed-by stop a r f l p h (yes q) =
+    let e : a + (r - a) ≡ r = omega arith in
+    usedBefore-skip (r - a) stop a f (omega arith) l (λ i x y. p i x (omega arith)) ∙ ap (λ k. usedBefore stop k f) e
+passed-by stop a r f l p h (no q) = let e : a ≡ r = omega arith in ap (λ k. usedBefore stop k f) e
+
+pub usedBefore-passed : (stop a r : ℕ) (f : List ℕ) → stop ≤ length f → AllBlank a r f → (a ≤ r) × (r ≤ max a stop) → usedBefore stop a f ≡ usedBefore stop r f
+usedBefore-passed stop a r f l p h = passed-by stop a r f l p h (decLe a stop)
