@@ -25,7 +25,7 @@ use Rattle.job.specs.declared.line.Word.{Word}
 use Rattle.job.proofs.LineLaws.{requestLine-le}
 use Rattle.job.proofs.RoomLaws.{none-stands, joined, laid-stands}
 use Rattle.loader.specs.Session.{idle}
-use Rattle.loader.specs.Result.{Board, board, Result, next, answer, replyAfter}
+use Rattle.loader.specs.Result.{Board, board, Result, next}
 use Rattle.loader.specs.declared.answer.Answer.{Answer}
 use Rattle.loader.specs.Answered.{Stepped}
 use Rattle.loader.specs.Refusals.{replySize}
@@ -109,7 +109,6 @@ pub record SoFar (file f₀ e₀ room₀ : List ℕ) (place : ℕ) (f e reply ro
   pub setups : HaveSetups (walk file cursor)
   pub reply-size : length reply ≡ replySize
   pub file-size : length file ≤ 16384
-  pub cursor-inside : cursor ≤ length file
   pub number-small : p .number ≤ cursor + 1
   pub lines-fit : fewestBytes * p .place + mostLine * length file ≤ fewestBytes * length room + mostLine * cursor
 
@@ -122,7 +121,6 @@ at-start file f e reply room place p r s c n q = record {
   setups = r .setups;
   reply-size = r .reply-size;
   file-size = r .file-size;
-  cursor-inside = omega arith;
   number-small = omega (arith, n);
   lines-fit = omega (arith, q, r .lines-fit);
 }
@@ -166,7 +164,6 @@ module _ (file f₀ e₀ room₀ : List ℕ) (place : ℕ) (f e reply room : Lis
           setups = (rw (t .met) at (s .setups)) .1;
           reply-size = l ∙ s .reply-size;
           file-size = s .file-size;
-          cursor-inside = t .within;
           number-small = omega (arith, r .number-after, met-setup, t .after, s .number-small);
           lines-fit = omega (arith, r .line-short, r .line .same-size, met-setup, t .after, s .lines-fit);
         }

@@ -1,7 +1,7 @@
 -- How the program runs a job, request by request. Assumes nothing: these are definitions.
 use mathlib.Core.Path.{_≡_}
 use mathlib.Core.List.{List}
-use Prim.Native.Nat.{ℕ, suc, _+_, _*_, _≤_, _<_}
+use Prim.Native.Nat.{ℕ, suc, _+_, _*_, _≤_}
 use lib.ListN.{length, take}
 use Rattle.job.specs.Requests.{Span, HaveSetups, setupOf, dataOf}
 use Rattle.job.specs.Walk.{walk}

@@ -1,15 +1,14 @@
 -- Laws of the requests of a list of fields, by its first field.
 -- Assumes nothing.
-use mathlib.Core.Path.{_≡_, refl, sym, _∙_}
-use mathlib.Core.Bool.{Bool, true, false}
+use mathlib.Core.Path.{_≡_, refl}
+use mathlib.Core.Bool.{true, false}
 use mathlib.Core.List.{List, [], _∷_, _++_}
-use Prim.Native.Nat.{ℕ, zero, suc, _+_, _≤_, _<_}
+use Prim.Native.Nat.{ℕ, zero, suc, _+_}
 use native.Mathlib.Omega.{arith}
-use lib.Dec.{eqb}
-use lib.ListN.{length, length-append}
+use lib.ListN.{length-append}
 use borrow.Author.Tests.{ne-eqb}
 use Rattle.job.specs.Field.{tagAt, lengthAt, valueAt, endAt, requestTag, groupTag, beyond}
-use Rattle.job.specs.Requests.{Span, requestsIn}
+use Rattle.job.specs.Requests.{requestsIn}
 use Rattle.job.specs.Read.{Counts}
 use Rattle.job.proofs.FieldLaws.{Inside}
 

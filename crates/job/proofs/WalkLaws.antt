@@ -2,18 +2,18 @@
 -- Assumes nothing.
 use mathlib.Core.Path.{_≡_, refl, sym, ap, _∙_}
 use mathlib.Core.Logic.{⊎-elim}
-use mathlib.Core.Bool.{Bool, true, false}
+use mathlib.Core.Bool.{true, false}
 use mathlib.Core.List.{List, [], _∷_, _++_, append-assoc, append-nil}
 use Prim.Native.Nat.{ℕ, zero, suc, _+_, _≤_, _<_}
 use native.Mathlib.Omega.{arith}
 use lib.ListN.{length}
 use borrow.Author.Tests.{lt-ltb, ne-eqb}
 use Rattle.job.specs.Field.{tagAt, lengthAt, valueAt, endAt, requestTag, groupTag, beyond}
-use Rattle.job.specs.Verdict.{Verdict, Accepted, fieldsVerdict, verdict}
+use Rattle.job.specs.Verdict.{Accepted, fieldsVerdict, verdict}
 use Rattle.job.specs.Requests.{Span, requestsIn, requestsOf, HaveSetups}
-use Rattle.job.specs.Walk.{Met, Request, NoMore, walkIn, walk, firstMet, InOrder}
+use Rattle.job.specs.Walk.{Request, NoMore, walkIn, walk, firstMet, InOrder}
 use Rattle.job.proofs.FieldLaws.{Inside, which, lt-or-ge, eq-or-ne, fits, not-beyond-later, field-group, request-size}
-use Rattle.job.proofs.VerdictLaws.{Good, good, fields-more, both-accepted, file-accepted}
+use Rattle.job.proofs.VerdictLaws.{good, fields-more, both-accepted, file-accepted}
 use Rattle.job.proofs.RequestsLaws.{none-beyond, request-first, group-first, other-first}
 
 abbrev span : ℕ → ℕ → Span

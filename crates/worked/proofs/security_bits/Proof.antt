@@ -10,8 +10,5 @@ use Rattle.worked.proofs.security_bits.Tie as tie
 expect-requires : tie.Need-expect-requires
 expect-requires c κs = eq-eqb _ _ (ap (λ x. x .hsb) (c .before .write-hsb .ensures ∙ ap (withHsb 0x4F) (c .before .before .delivered .ensures)))
 
-returns : tie.Need-returns
-returns c = search needs
-
 pub security-bits-spec : {M : Type 1} → statement M
-security-bits-spec = tie.close (tie.spec (λ c κs. search needs) (λ c κs. search needs) expect-requires returns)
+security-bits-spec = tie.close (tie.spec (λ c κs. search needs) (λ c κs. search needs) expect-requires (λ c. search needs))

@@ -1,6 +1,5 @@
 -- `bench::run::ask_board` meets its contract: the parts of the file that it lends are the request's setup and data.
 -- Assumes nothing.
-use native.Mathlib.Omega.{arith}
 use borrow.Author.Needs.{needs}
 use Rattle.bench.proofs.RunLaws.{stepped-asked}
 use Rattle.bench.proofs.run.ask_board.Statement.{statement}

@@ -23,9 +23,6 @@ cast-least c = omega arith
 add-least : tie.Need-add-least Inv-loop μ-loop
 add-least c = omega arith
 
-least-requires : tie.Need-least-requires Inv-loop μ-loop
-least-requires c κs = search needs
-
 cast-i : tie.Need-cast-i Inv-loop μ-loop
 cast-i c = omega arith
 
@@ -54,4 +51,4 @@ returns-2 : tie.Need-returns-2 Inv-loop μ-loop
 returns-2 c = sym (ap usedOf (usedIn-before _ _ _ _ (rw add-one at (c .before .before .before .least .ensures)) ∙ c .before .loop .inv .2 ∙ usedBefore-end _ _ _ (c .loop-test .left)))
 
 pub first-used-spec : {M : Type 1} → statement M
-first-used-spec = tie.close (tie.spec Inv-loop μ-loop cast-least add-least least-requires cast-i loop-holds shared-slice-read-if1 cast-t12 returns add-i loop-less loop-again returns-2)
+first-used-spec = tie.close (tie.spec Inv-loop μ-loop cast-least add-least (λ c κs. search needs) cast-i loop-holds shared-slice-read-if1 cast-t12 returns add-i loop-less loop-again returns-2)

@@ -94,9 +94,6 @@ cast-t11 c = omega arith
 slice-aggregate-store-page : tie.Need-slice-aggregate-store-page Inv-loop μ-loop
 slice-aggregate-store-page c = refl
 
-store-page-requires : tie.Need-store-page-requires Inv-loop μ-loop
-store-page-requires c κs = search needs
-
 add-pages : tie.Need-add-pages Inv-loop μ-loop
 add-pages c = omega (arith, counts-one _ _ _ _ _ _ (c .before .before .before .before .before .before .loop .inv) (c .before .before .before .before .before .loop-test .taken) (c .before .before .before .before .before .before .before .before .pre .0) _ (c .before .before .store-page .ensures .0))
 
@@ -113,4 +110,4 @@ returns : tie.Need-returns Inv-loop μ-loop
 returns c = ended _ _ _ _ _ _ (c .before .loop .inv) (c .loop-test .left)
 
 pub erase-pages-spec : {M : Type 1} → statement M
-erase-pages-spec = tie.close (tie.spec Inv-loop μ-loop loop-holds add-t10 cast-t11 slice-aggregate-store-page store-page-requires add-pages loop-less loop-again same-length returns)
+erase-pages-spec = tie.close (tie.spec Inv-loop μ-loop loop-holds add-t10 cast-t11 slice-aggregate-store-page (λ c κs. search needs) add-pages loop-less loop-again same-length returns)

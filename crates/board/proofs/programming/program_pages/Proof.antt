@@ -121,9 +121,6 @@ mul-least c = omega arith
 add-least : tie.Need-add-least Inv-loop μ-loop
 add-least c = omega arith
 
-least-requires : tie.Need-least-requires Inv-loop μ-loop
-least-requires c κs = search needs
-
 sub-from : tie.Need-sub-from Inv-loop μ-loop
 sub-from c = omega arith
 
@@ -142,9 +139,6 @@ part-store-page-start c = omega arith
 part-store-page-end : tie.Need-part-store-page-end Inv-loop μ-loop
 part-store-page-end c = omega arith
 
-store-page-requires : tie.Need-store-page-requires Inv-loop μ-loop
-store-page-requires c κs = search needs
-
 add-pages : tie.Need-add-pages Inv-loop μ-loop
 add-pages c = omega (arith, few _ _ _ _ _ _ _ (c .before .before .before .before .before .before .before .loop .inv) (c .before .before .before .before .before .before .loop-test .taken) (c .before .before .before .before .before .before .before .before .before .before .pre .1) (c .before .before .before .before .before .before .before .before .before .before .pre .2) (c .before .before .before .before .before .least .ensures) _ (c .before .before .store-page .ensures .0))
 
@@ -161,4 +155,4 @@ returns : tie.Need-returns Inv-loop μ-loop
 returns c = ended _ _ _ _ _ _ (c .before .loop .inv) (c .loop-test .left)
 
 pub program-pages-spec : {M : Type 1} → statement M
-program-pages-spec = tie.close (tie.spec Inv-loop μ-loop add-end loop-holds mul-least add-least least-requires sub-from sub-to cast-t17 sub-store-page part-store-page-start part-store-page-end store-page-requires add-pages loop-less loop-again same-length returns)
+program-pages-spec = tie.close (tie.spec Inv-loop μ-loop add-end loop-holds mul-least add-least (λ c κs. search needs) sub-from sub-to cast-t17 sub-store-page part-store-page-start part-store-page-end (λ c κs. search needs) add-pages loop-less loop-again same-length returns)

@@ -20,8 +20,5 @@ returns-4 c = simp (c .before .before .enum-told .given .1, ne-eqb _ _ (c .befor
 returns-5 : tie.Need-returns-5
 returns-5 c = simp (c .before .enum-told2 .given .1, ne-eqb _ _ (c .if3 .left))
 
-returns-6 : tie.Need-returns-6
-returns-6 c = search needs
-
 pub ssb-row-spec : {M : Type 1} → statement M
-ssb-row-spec = tie.close (tie.spec (λ c. search needs) returns returns-2 (λ c. search needs) returns-3 (λ c. search needs) returns-4 returns-5 returns-6)
+ssb-row-spec = tie.close (tie.spec (λ c. search needs) returns returns-2 (λ c. search needs) returns-3 (λ c. search needs) returns-4 returns-5 (λ c. search needs))
