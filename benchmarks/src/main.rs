@@ -1,10 +1,14 @@
 //! The work that is measured, the same for the loader (through the functions that crates/exports exports) and for the second program.
 //!
-//! `measure names` prints the lines; `measure repeat LINE WHO COUNT` does a line's work so many times, WHO being `ours` or `second`;
+//! `measure names` prints the lines; `measure repeat LINE WHO COUNT` does a line's work so many times, WHO being `ours`, `second`, or
+//! `packed`, which is the second program behind the same numbers as ours;
 //! `measure time` does every line with both in turn, and prints the microseconds of each; `measure job` writes the job of requests.
 //!
 //! Before the first time both memories are filled with FFh and the reply buffer and the room with 00h. Nothing is cleared between
 //! one time and the next.
+
+#[path = "../../tests/compare/src/layout.rs"]
+mod layout;
 
 use std::hint::black_box;
 use std::io::Write;
@@ -133,6 +137,58 @@ impl Program for Second {
             Ok(()) => second::count(file),
             Err(_) => 0,
         }
+    }
+}
+
+/// The second program behind the same numbers as ours: session, configuration, outcome and command are packed and unpacked.
+struct Packed {
+    session: u64,
+    config: u64,
+    flash: Vec<u8>,
+    eeprom: Vec<u8>,
+    reply: Vec<u8>,
+}
+
+impl Program for Packed {
+    fn new() -> Packed {
+        let Ours { session, config, flash, eeprom, reply } = Ours::new();
+        Packed { session, config, flash, eeprom, reply }
+    }
+
+    fn power_up(&mut self) {
+        self.session = layout::pack_session(&second::Session::POWERED);
+    }
+
+    fn use_last_byte(&mut self) {
+        self.flash[FLASH - 1] = 0;
+    }
+
+    fn ask(&mut self, setup: &[u8], data: &[u8]) -> usize {
+        let Packed { session: packed_session, config: packed_config, flash, eeprom, reply } = self;
+        let (mut session, mut config) = (layout::session(*packed_session), layout::config(*packed_config));
+        let answer = second::step(&mut session, &mut config, setup, data, flash, eeprom, reply);
+        (*packed_session, *packed_config) = (layout::pack_session(&session), layout::pack_config(&config));
+        black_box(layout::pack_outcome(&answer.outcome));
+        answer.length
+    }
+
+    fn write(start: u16, end: u16, body: &[u8], suffix: &[u8], room: &mut [u8]) -> usize {
+        let command = layout::command(black_box(u64::from(start) << 16 | u64::from(end) << 32));
+        second::write_command(command, body, suffix, room).unwrap_or(0)
+    }
+
+    fn read(payload: &[u8]) -> usize {
+        match second::read_command(payload) {
+            second::Reading::Command(command, _, suffix) => {
+                black_box(layout::pack_command(&command));
+                suffix.start
+            }
+            _ => 0,
+        }
+    }
+
+    fn check(file: &[u8]) -> usize {
+        Second::check(file)
     }
 }
 
@@ -267,6 +323,7 @@ fn main() {
             let (line, count) = (line.parse().expect("a line"), count.parse().expect("a count"));
             match who {
                 "ours" => work.repeat::<Ours>(line, count),
+                "packed" => work.repeat::<Packed>(line, count),
                 _ => work.repeat::<Second>(line, count),
             };
         }

@@ -207,7 +207,7 @@ pub fn session(random: &mut Random) -> u64 {
         return random.next();
     }
     let state = if random.chance(92) { random.of(&STATES) } else { random.below(14) as u8 };
-    let status = if random.chance(95) { random.below(16) as u8 } else { random.byte() };
+    let status = if random.chance(95) { random.below(17) as u8 } else { random.byte() };
     let kind = if random.chance(97) { random.below(7) as u16 } else { random.word() };
     let size = if kind == 2 { EEPROM } else { FLASH };
     let (first, last) = range(random, size);
