@@ -5,20 +5,21 @@ use mathlib.Core.List.{List, [], _∷_, _++_, append-assoc, append-nil}
 use Prim.Native.Nat.{ℕ, suc, _+_, _-_, _*_, _≤_, _<_}
 use native.Mathlib.Omega.{arith}
 use native.Mathlib.Numerals.{add-one}
-use lib.ListN.{length, take, drop, replicate, length-drop, length-append}
+use lib.ListN.{length, take, drop, replicate, length-replicate, length-drop, length-append}
 use lib.Seq.{length-take-le, take-take, take-add, take-append-seam, drop-drop, drop-at}
 use borrow.Author.Tests.{le-leb}
 use Rattle.words.specs.Words.{laid}
 use Rattle.board.specs.Config.{deliveredConfig}
 use Rattle.board.specs.Memory.{eepromSize, blankFlash}
-use Rattle.job.specs.Verdict.{verdict}
+use Rattle.job.specs.Field.{setupSize}
+use Rattle.job.specs.Verdict.{mostFile, verdict}
 use Rattle.job.specs.declared.verdict.Verdict.the-variants.{Accepted, Refused}
-use Rattle.job.specs.Requests.{Span, HaveSetups, requestsOf, requestCount, setupOf, dataOf}
+use Rattle.job.specs.Requests.{Span, span, HaveSetups, requestsOf, requestCount, setupOf, dataOf}
 use Rattle.job.specs.Walk.{walk, firstMet}
 use Rattle.job.specs.declared.walk.Met.the-variants.{Request, NoMore}
 use Rattle.job.proofs.VerdictLaws.{file-accepted}
 use Rattle.job.proofs.WalkLaws.{steps, no-more, walk-job}
-use Rattle.job.specs.Line.{requestLine, jobLine, refusedLine, mostLine}
+use Rattle.job.specs.Line.{requestLine, jobLine, refusedLine, mostLine, mostJobLine}
 use Rattle.job.specs.Room.{put, Stands}
 use Rattle.job.specs.declared.line.Put.{Put}
 use Rattle.job.specs.declared.line.Word.{Word}
@@ -30,9 +31,13 @@ use Rattle.loader.specs.declared.answer.Answer.{Answer}
 use Rattle.loader.specs.Answered.{Stepped}
 use Rattle.loader.specs.Refusals.{replySize}
 use Rattle.loader.specs.Step.{ask, deliveredBoard}
-use Rattle.bench.specs.Bench.{wordOf, resultLine, lines, bench}
-use Rattle.bench.specs.Run.{fewestBytes, mostOutput, span, endOf, asked, Placed, answerLine, boardAt, Ran, Ready}
+use Rattle.bench.specs.Bench.{wordOf, resultLine, asked, lines, bench}
+use Rattle.bench.specs.Run.{fewestBytes, mostOutput, endOf, Placed, answerLine, boardAt, Ran, Ready}
 use Rattle.bench.specs.declared.run.Progress.{Progress}
+
+-- the size of an array, said for every size, so that nothing computes an array
+pub array-size : (n b : ℕ) → length (replicate n b) ≡ n
+array-size n b = length-replicate n b
 
 -- ---- one request
 
@@ -108,7 +113,7 @@ pub record SoFar (file f₀ e₀ room₀ : List ℕ) (place : ℕ) (f e reply ro
   pub stands : Stands place written room₀ (p .place) room
   pub setups : HaveSetups (walk file cursor)
   pub reply-size : length reply ≡ replySize
-  pub file-size : length file ≤ 16384
+  pub file-size : length file ≤ mostFile
   pub number-small : p .number ≤ cursor + 1
   pub lines-fit : fewestBytes * p .place + mostLine * length file ≤ fewestBytes * length room + mostLine * cursor
 
@@ -128,7 +133,7 @@ at-start file f e reply room place p r s c n q = record {
 module _ (file f₀ e₀ room₀ : List ℕ) (place : ℕ) (f e reply room : List ℕ) (p : Progress) (cursor : ℕ) (s : SoFar file f₀ e₀ room₀ place f e reply room p cursor) where
   -- the walk meets a request
   module _ (start size : ℕ) (m : firstMet (walk file cursor) ≡ Request start size) where
-    pub met-setup : 8 ≤ size
+    met-setup : setupSize ≤ size
     met-setup = (rw (steps file cursor start size m .met) at (s .setups)) .0
 
     pub placed : Placed file start size
@@ -137,7 +142,7 @@ module _ (file f₀ e₀ room₀ : List ℕ) (place : ℕ) (f e reply room : Lis
     pub room-left : p .place + mostLine ≤ length room
     room-left = let t = steps file cursor start size m in omega (arith, met-setup, t .after, t .within, s .lines-fit)
 
-    pub number-left : p .number < 65536
+    pub number-left : p .number ≤ mostFile
     number-left = let t = steps file cursor start size m in omega (arith, t .after, t .within, s .number-small, s .file-size)
 
     pub less-left : length file - (start + size) < length file - cursor
@@ -187,7 +192,7 @@ front-stands end most text room₀ room q h k m l d =
     (t, omega (arith, h, t .ends))
 
 module _ (file : List ℕ) (g : verdict file ≡ Accepted) where
-  pub ready : (reply room : List ℕ) (place : ℕ) → length reply ≡ replySize → mostOutput ≤ length room → place ≤ 25 → Ready file reply room place
+  pub ready : (reply room : List ℕ) (place : ℕ) → length reply ≡ replySize → mostOutput ≤ length room → place ≤ mostJobLine → Ready file reply room place
   ready reply room place r m h =
       let w = walk-job file g in
       record {

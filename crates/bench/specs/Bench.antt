@@ -16,6 +16,7 @@ use Rattle.loader.specs.Step.{ask, deliveredBoard}
 use Rattle.loader.specs.declared.answer.Outcome.{Outcome}
 use Rattle.loader.specs.declared.answer.Outcome.the-variants.{Done, Stall, Started, Refused}
 
+-- "`done` (also where an error status is set), `stall`, `start` or `refK`"
 abbrev pub wordOf : Outcome → Word
 wordOf Done = W.Done
 wordOf Stall = W.Stall
@@ -26,11 +27,15 @@ wordOf (Refused n) = W.Refused n
 abbrev pub resultLine : ℕ → Result → List ℕ
 resultLine number r = requestLine number (wordOf (r .outcome)) (r .session .state) (r .session .status) (pages r) (r .sent)
 
+-- what a board answers to the request whose value lies there
+abbrev pub asked : List ℕ → Span → Board → Result
+asked file s b = ask b (setupOf file s) (dataOf file s) replySize
+
 -- "a line per request: number from 1"; the requests run one after another
 unfoldable pub lines : List ℕ → Board → ℕ → List Span → List ℕ
 lines file b number [] = []
 lines file b number (s ∷ ss) =
-    let r : Result = ask b (setupOf file s) (dataOf file s) replySize in
+    let r : Result = asked file s b in
     resultLine number r ++ lines file (next b r) (suc number) ss
 
 -- "The program then writes only `refused K at P` .. and runs nothing."; "Otherwise it starts from a delivered board, all memory
@@ -39,6 +44,7 @@ abbrev pub writtenFor : List ℕ → Verdict → List ℕ
 writtenFor file Accepted = jobLine (requestCount file) ++ lines file deliveredBoard 1 (requestsOf file)
 writtenFor file (Rejected k p) = refusedLine k p
 
+-- all that the program writes for a file
 unfoldable pub bench : List ℕ → List ℕ
 bench file = writtenFor file (verdict file)
 

@@ -3,43 +3,41 @@ use mathlib.Core.Path.{_≡_}
 use mathlib.Core.List.{List}
 use Prim.Native.Nat.{ℕ, suc, _+_, _*_, _≤_}
 use lib.ListN.{length, take}
-use Rattle.job.specs.Requests.{Span, HaveSetups, setupOf, dataOf}
+use Rattle.job.specs.Field.{headSize, setupSize}
+use Rattle.job.specs.Verdict.{mostFile}
+use Rattle.job.specs.Requests.{HaveSetups}
 use Rattle.job.specs.Walk.{walk}
-use Rattle.job.specs.Line.{requestLine, mostLine}
+use Rattle.job.specs.Line.{requestLine, mostLine, mostJobLine}
 use Rattle.job.specs.Room.{Stands}
 use Rattle.job.specs.declared.line.Put.{Put}
 use Rattle.job.specs.declared.line.Put.the-variants.{Upto, Unwritten}
 use Rattle.loader.specs.Result.{Board, board, Result, next}
 use Rattle.loader.specs.declared.answer.Answer.{Answer}
 use Rattle.loader.specs.Refusals.{replySize}
-use Rattle.loader.specs.Step.{ask}
 use Rattle.bench.specs.Bench.{wordOf, resultLine}
 use Rattle.bench.specs.declared.run.Progress.{Progress}
 
 -- the fewest bytes of a request's field: tag, length and setup
 abbrev pub fewestBytes : ℕ
-fewestBytes = 11
+fewestBytes = headSize + setupSize
 
--- room for every job: the line that states the count, and a line for each eleven bytes of the longest file
+-- no accepted job holds more requests: 16,384 bytes by 11, rounded up
+abbrev pub mostRequests : ℕ
+mostRequests = 1490
+
+-- room for every job: the line that states the count, and the lines of its requests
 abbrev pub mostOutput : ℕ
-mostOutput = 25 + mostLine * 1490
-
-abbrev pub span : ℕ → ℕ → Span
-span start size = record { start = start; size = size }
+mostOutput = mostJobLine + mostLine * mostRequests
 
 -- where a line ends in the room
 abbrev pub endOf : Put → ℕ
 endOf (Upto end) = end
 endOf (Unwritten k) = 0
 
--- what a board answers to the request whose value lies there
-abbrev pub asked : List ℕ → Span → Board → Result
-asked file s b = ask b (setupOf file s) (dataOf file s) replySize
-
 -- a request's value lies in the file and has its setup
 pub record Placed (file : List ℕ) (start size : ℕ) : Type 0 where
   pub in-file : start + size ≤ length file
-  pub has-setup : 8 ≤ size
+  pub has-setup : setupSize ≤ size
 
 -- the line of an answer whose reply stands at the start of the buffer
 abbrev pub answerLine : ℕ → Answer → List ℕ → List ℕ
@@ -58,7 +56,7 @@ pub record Ran (p : Progress) (b : Board) (r : Result) (q : Progress) (f e room�
 
 -- a job that can be run: each request that the walk meets has its setup, and the room is long enough for their lines
 pub record Ready (file reply room : List ℕ) (place : ℕ) : Type 0 where
-  pub file-size : length file ≤ 16384
+  pub file-size : length file ≤ mostFile
   pub setups : HaveSetups (walk file 0)
   pub reply-size : length reply ≡ replySize
   pub lines-fit : fewestBytes * place + mostLine * length file ≤ fewestBytes * length room

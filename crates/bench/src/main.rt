@@ -1,12 +1,15 @@
-// The bench program: a job file on standard input, its answer on standard output. All that matters is proved in answer.rt: this
-// file only reads and writes.
+// The bench program: a job file on standard input, its answer on standard output. What is written is proved in answer.rt; no
+// contract can say that standard input is read to its end, and that the answer reaches standard output.
 mod answer;
 mod run;
 
 ghost use mathlib.Core.Path.{_≡_};
+ghost use Prim.Native.Nat.{suc};
 ghost use lib.ListN.{length};
+ghost use Rattle.job.specs.Verdict.{mostFile};
 ghost use Rattle.bench.specs.Run.{mostOutput};
 use answer::write_answer;
+use libc::STDERR_FILENO;
 use libc::STDIN_FILENO;
 use libc::STDOUT_FILENO;
 
@@ -14,7 +17,13 @@ use libc::STDOUT_FILENO;
 const FILE_ROOM: usize = 16385;
 
 // Room for the longest answer.
-const ANSWER_ROOM: usize = 3187135;
+const ANSWER_ROOM: usize = 25 + 2139 * 1490;
+
+fn file_room() -> [u8; FILE_ROOM]
+    ensures { λ r. ⌜ length r ≡ suc mostFile ⌝ }
+{
+    [0; FILE_ROOM]
+}
 
 fn answer_room() -> [u8; ANSWER_ROOM]
     ensures { λ r. ⌜ length r ≡ mostOutput ⌝ }
@@ -23,9 +32,14 @@ fn answer_room() -> [u8; ANSWER_ROOM]
 }
 
 fn main() {
-    let mut file = [0; FILE_ROOM];
+    let mut file = file_room();
     let size = io::read_full(STDIN_FILENO, &mut file);
     let mut room = answer_room();
     let end = write_answer(&file[..size], &mut room);
-    io::write_all(STDOUT_FILENO, &room[..end]);
+    if !io::write_all(STDOUT_FILENO, &room[..end]) {
+        io::write_all(
+            STDERR_FILENO,
+            b"bench: not all of the answer could be written\n",
+        );
+    }
 }

@@ -1,8 +1,10 @@
 // A job's requests, run one after another.
 ghost use mathlib.Core.Path.{_≡_};
-ghost use Prim.Native.Nat.{_+_, _≤_, _<_};
+ghost use Prim.Native.Nat.{_+_, _≤_};
 ghost use lib.ListN.{length};
 ghost use Rattle.board.specs.Config.{deliveredConfig};
+ghost use Rattle.job.specs.Verdict.{mostFile};
+ghost use Rattle.job.specs.Requests.{span};
 ghost use Rattle.job.specs.Walk.{walk};
 ghost use Rattle.job.specs.Line.{mostLine};
 ghost use Rattle.job.specs.Room.{Stands};
@@ -10,8 +12,8 @@ ghost use Rattle.loader.specs.Session.{idle};
 ghost use Rattle.loader.specs.Refusals.{replySize};
 ghost use Rattle.loader.specs.Result.{board};
 ghost use Rattle.loader.specs.Answered.{Stepped};
-ghost use Rattle.bench.specs.Bench.{wordOf, lines};
-ghost use Rattle.bench.specs.Run.{endOf, span, asked, Placed, answerLine, boardAt, Ran, Ready};
+ghost use Rattle.bench.specs.Bench.{wordOf, asked, lines};
+ghost use Rattle.bench.specs.Run.{endOf, Placed, answerLine, boardAt, Ran, Ready};
 use board::Config;
 use board::delivered;
 use job::Met;
@@ -119,7 +121,7 @@ fn run_one(
 ) -> Progress
     requires { ⌜ Placed (now file) start size ⌝ }
     requires { ⌜ length (now reply) ≡ replySize ⌝ }
-    requires { ⌜ (progress .number < 65536) × (progress .place + mostLine ≤ length (now room)) ⌝ }
+    requires { ⌜ (progress .number ≤ mostFile) × (progress .place + mostLine ≤ length (now room)) ⌝ }
     ensures { λ r. ⌜ Ran progress (boardAt progress (now (flash .entry)) (now (eeprom .entry))) (asked (now (file .entry)) (span start size) (boardAt progress (now (flash .entry)) (now (eeprom .entry)))) r (now (flash .exit)) (now (eeprom .exit)) (now (room .entry)) (now (room .exit)) ⌝ }
 {
     let number = progress.number;

@@ -6,7 +6,7 @@ use Prim.Native.Nat.{ℕ, _+_, _*_, _≤_}
 use native.Mathlib.Omega.{arith}
 use lib.ListN.{length, length-append}
 use Rattle.job.specs.Text.{mostDigits, ascii, decimal, hexByte, hexBytes}
-use Rattle.job.specs.Line.{Word, Done, Stall, Start, Refused, wordText, replyText, space, mostLine, requestLine, jobLine, refusedLine}
+use Rattle.job.specs.Line.{Word, Done, Stall, Start, Refused, wordText, replyText, space, mostLine, requestLine, jobLine, refusedLine, mostJobLine, mostRefusedLine}
 use Rattle.job.specs.Room.{jobRest, refusedRest, requestSize, jobSize, refusedSize}
 use Rattle.job.proofs.TextLaws.{length-decimal, length-hexBytes}
 
@@ -59,8 +59,8 @@ replyText-le (b ∷ bs) h = omega (arith, length-hexBytes (b ∷ bs))
 pub requestLine-le : (n : ℕ) (w : Word) (st s p : ℕ) (r : List ℕ) → length r ≤ 1024 → length (requestLine n w st s p r) ≤ mostLine
 requestLine-le n w st s p r h = omega (arith, length-requestLine n w st s p r, length-decimal n, length-decimal st, length-decimal p, length-wordText w, replyText-le r h)
 
-pub jobLine-le : (n : ℕ) → length (jobLine n) ≤ jobRest + mostDigits
+pub jobLine-le : (n : ℕ) → length (jobLine n) ≤ mostJobLine
 jobLine-le n = omega (arith, length-jobLine n, length-decimal n)
 
-pub refusedLine-le : (k p : ℕ) → length (refusedLine k p) ≤ refusedRest + 2 * mostDigits
+pub refusedLine-le : (k p : ℕ) → length (refusedLine k p) ≤ mostRefusedLine
 refusedLine-le k p = omega (arith, length-refusedLine k p, length-decimal k, length-decimal p)

@@ -8,7 +8,7 @@ use native.Mathlib.Omega.{arith}
 use lib.ListN.{length-append}
 use borrow.Author.Tests.{ne-eqb}
 use Rattle.job.specs.Field.{tagAt, lengthAt, valueAt, endAt, requestTag, groupTag, beyond}
-use Rattle.job.specs.Requests.{requestsIn}
+use Rattle.job.specs.Requests.{span, requestsIn}
 use Rattle.job.specs.Read.{Counts}
 use Rattle.job.proofs.FieldLaws.{Inside}
 
@@ -18,7 +18,7 @@ none-beyond zero file at end b = refl
 none-beyond (suc n) file at end b = simp b
 
 module _ (n : ℕ) (file : List ℕ) (at end : ℕ) (b : beyond file at end ≡ false) where
-  pub request-first : tagAt file at ≡ requestTag → requestsIn (suc n) file at end ≡ record { start = valueAt at; size = lengthAt file at } ∷ requestsIn n file (endAt file at) end
+  pub request-first : tagAt file at ≡ requestTag → requestsIn (suc n) file at end ≡ span (valueAt at) (lengthAt file at) ∷ requestsIn n file (endAt file at) end
   unfolding requestsIn
   request-first t = simp (b, t)
 

@@ -9,7 +9,7 @@ use native.Mathlib.Omega.{arith}
 use lib.ListN.{length}
 use borrow.Author.Tests.{le-leb, lt-leb, lt-ltb, le-ltb}
 use Rattle.job.specs.Field.{tagAt, lengthAt, valueAt, endAt, beyond, tagRefusal}
-use Rattle.job.specs.Verdict.{Verdict, Accepted, Refused, andThen, fieldVerdict, fieldsVerdict, verdict}
+use Rattle.job.specs.Verdict.{Verdict, Accepted, Refused, andThen, fieldVerdict, fieldsVerdict, mostFile, verdict}
 use Rattle.job.specs.Read.{readOf, ReadsFields, ReadsField}
 use Rattle.job.specs.declared.verdict.FieldRead.{FieldRead}
 use Rattle.job.specs.declared.verdict.FieldRead.the-variants.{Next, Bad}
@@ -35,7 +35,6 @@ next-was (Refused n a) x next e = let z : _≡_ {A = ℕ} 0 1 = cc in absurd (om
 pub record Good (file : List ℕ) (at end depth : ℕ) : Type 0 where
   pub not-beyond : beyond file at end ≡ false
   pub not-refused : tagRefusal (tagAt file at) (lengthAt file at) depth ≡ 0
-  pub head-fits : valueAt at ≤ end
   pub value-fits : endAt file at ≤ end
 
 pub good : (inside : Verdict) (file : List ℕ) (at end depth : ℕ) → fieldVerdict inside file at end depth ≡ Accepted → Good file at end depth
@@ -46,7 +45,7 @@ good inside file at end depth g =
     let f = fits file at end b in
     ⊎-elim
     (λ (r : tagRefusal (tagAt file at) (lengthAt file at) depth ≡ 0).
-    record { not-beyond = b; not-refused = r; head-fits = f .0; value-fits = f .1 })
+    record { not-beyond = b; not-refused = r; value-fits = f .1 })
     (λ (r : tagRefusal (tagAt file at) (lengthAt file at) depth ≡ 0 → ⊥).
     refused-not _ _ _ (field-bad inside file at end depth _ b refl r) g)
     (eq-or-ne (tagRefusal (tagAt file at) (lengthAt file at) depth) 0))
@@ -104,10 +103,10 @@ pub held : (file : List ℕ) (at size depth : ℕ) (v : Verdict) → size ≡ le
 held file at size depth v e reads n h = reads n (omega arith) ∙ ap (λ (l : ℕ). fieldsVerdict n file (valueAt at) (valueAt at + l) depth) e
 
 -- an accepted file is an accepted list
-pub file-accepted : (file : List ℕ) → verdict file ≡ Accepted → (length file ≤ 16384) × (fieldsVerdict (length file) file 0 (length file) 0 ≡ Accepted)
+pub file-accepted : (file : List ℕ) → verdict file ≡ Accepted → (length file ≤ mostFile) × (fieldsVerdict (length file) file 0 (length file) 0 ≡ Accepted)
 unfolding verdict
 file-accepted file g =
     ⊎-elim
-    (λ (h : 16384 < length file). refused-not _ 16 0 (simp (lt-ltb _ _ h)) g)
-    (λ (h : length file ≤ 16384). (h, simp (le-ltb _ _ h) at g))
-    (lt-or-ge 16384 (length file))
+    (λ (h : mostFile < length file). refused-not _ 16 0 (simp (lt-ltb _ _ h)) g)
+    (λ (h : length file ≤ mostFile). (h, simp (le-ltb _ _ h) at g))
+    (lt-or-ge mostFile (length file))

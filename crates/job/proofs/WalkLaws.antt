@@ -10,14 +10,11 @@ use lib.ListN.{length}
 use borrow.Author.Tests.{lt-ltb, ne-eqb}
 use Rattle.job.specs.Field.{tagAt, lengthAt, valueAt, endAt, requestTag, groupTag, beyond}
 use Rattle.job.specs.Verdict.{Accepted, fieldsVerdict, verdict}
-use Rattle.job.specs.Requests.{Span, requestsIn, requestsOf, HaveSetups}
+use Rattle.job.specs.Requests.{Span, span, requestsIn, requestsOf, HaveSetups}
 use Rattle.job.specs.Walk.{Request, NoMore, walkIn, walk, firstMet, InOrder}
 use Rattle.job.proofs.FieldLaws.{Inside, which, lt-or-ge, eq-or-ne, fits, not-beyond-later, field-group, request-size}
 use Rattle.job.proofs.VerdictLaws.{good, fields-more, both-accepted, file-accepted}
 use Rattle.job.proofs.RequestsLaws.{none-beyond, request-first, group-first, other-first}
-
-abbrev span : ℕ → ℕ → Span
-span start size = record { start = start; size = size }
 
 -- fewer than three bytes left
 pub end-beyond : (file : List ℕ) (at end : ℕ) → end ≤ at → beyond file at end ≡ true

@@ -29,6 +29,13 @@ requestLine number word state status pages reply =
 abbrev pub mostLine : ℕ
 mostLine = 2139
 
+-- nor the lines that state the count and a refusal
+abbrev pub mostJobLine : ℕ
+mostJobLine = 25
+
+abbrev pub mostRefusedLine : ℕ
+mostRefusedLine = 53
+
 -- "`job N`", "`refused K at P`"
 unfoldable pub jobLine : ℕ → List ℕ
 jobLine n = ascii "job " ++ decimal n ++ ascii "\n"

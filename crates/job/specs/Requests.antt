@@ -11,6 +11,9 @@ pub record Span : Type 0 where
   pub start : ℕ
   pub size : ℕ
 
+abbrev pub span : ℕ → ℕ → Span
+span start size = record { start = start; size = size }
+
 -- the requests of the fields from a place up to `end`, in file order, through all groups; a field that goes beyond ends them. The
 -- first number bounds the calls inside each other, as in fieldsVerdict
 unfoldable pub requestsIn : ℕ → List ℕ → ℕ → ℕ → List Span
@@ -19,11 +22,12 @@ requestsIn (suc n) file at end =
     let inside = requestsIn n file (valueAt at) (endAt file at) in
     let rest = requestsIn n file (endAt file at) end in
     let field : List Span =
-    if eqb (tagAt file at) requestTag then record { start = valueAt at; size = lengthAt file at } ∷ rest else
+    if eqb (tagAt file at) requestTag then span (valueAt at) (lengthAt file at) ∷ rest else
     if eqb (tagAt file at) groupTag then inside ++ rest else
     rest in
     if beyond file at end then [] else field
 
+-- the requests of a file
 unfoldable pub requestsOf : List ℕ → List Span
 requestsOf file = requestsIn (length file) file 0 (length file)
 

@@ -14,7 +14,7 @@ pub use Rattle.job.specs.declared.line.Put.the-variants.{Upto, Unwritten
 unfoldable pub put : ℕ → List ℕ → List ℕ → Put
 put at text room = if fits at text room then Upto (at + length text) else Unwritten 9
 
--- how many bytes a line has, as the code adds them up: those that are neither a word, a number nor the reply, and then these
+-- how many bytes a line has, as the code adds them up: those whose number never varies, and then these
 abbrev pub requestRest : ℕ
 requestRest = 8
 

@@ -8,7 +8,7 @@ use lib.ListN.{length}
 use Rattle.words.specs.Words.{if_then_else_}
 use Rattle.job.specs.Field.{tagAt, lengthAt, valueAt, endAt, beyond, requestTag, groupTag}
 use Rattle.job.specs.Verdict.{verdict, Accepted}
-use Rattle.job.specs.Requests.{Span, requestsOf}
+use Rattle.job.specs.Requests.{Span, span, requestsOf}
 pub use Rattle.job.specs.declared.walk.Met.{Met}
 pub use Rattle.job.specs.declared.walk.Met.the-variants.{Request, NoMore}
 
@@ -19,11 +19,12 @@ walkIn (suc n) file at =
     let into = walkIn n file (valueAt at) in
     let over = walkIn n file (endAt file at) in
     let met : List Span =
-    if eqb (tagAt file at) requestTag then record { start = valueAt at; size = lengthAt file at } ∷ over else
+    if eqb (tagAt file at) requestTag then span (valueAt at) (lengthAt file at) ∷ over else
     if eqb (tagAt file at) groupTag then into else
     over in
     if beyond file at (length file) then [] else met
 
+-- the same with a bound that is large enough
 unfoldable pub walk : List ℕ → ℕ → List Span
 walk file at = walkIn (length file) file at
 

@@ -32,8 +32,8 @@ pub enum Put {
 // "room too short"
 const TOO_SHORT: u8 = 9;
 
-// How many bytes of a line are neither a word nor digits of a number: in a request's line five spaces, two hex digits and the line
-// feed, and in the others their words, spaces and the line feed.
+// How many bytes of a line never vary in number: of a request's line five spaces, two hex digits and the line feed, and of the others
+// their words, spaces and the line feed.
 const REQUEST_REST: usize = 8;
 
 const JOB_REST: usize = 5;

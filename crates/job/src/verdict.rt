@@ -2,6 +2,7 @@
 ghost use mathlib.Core.Path.{_≡_};
 ghost use Prim.Native.Nat.{_≤_};
 ghost use lib.ListN.{length};
+ghost use Rattle.job.specs.Field.{mostDepth};
 ghost use Rattle.job.specs.Verdict.{verdict};
 ghost use Rattle.job.specs.Read.{ReadsFields, ReadsField};
 use crate::field::GROUP;
@@ -26,7 +27,7 @@ pub enum FieldRead {
 
 // Reads the fields from a place up to `end`, which `depth` groups enclose.
 fn read_fields(file: &[u8], at: usize, end: usize, depth: u8) -> Verdict
-    requires { ⌜ (at ≤ end) × (end ≤ length (now file)) × (depth ≤ 4) ⌝ }
+    requires { ⌜ (at ≤ end) × (end ≤ length (now file)) × (depth ≤ mostDepth) ⌝ }
     ensures { λ r. ⌜ ReadsFields r (now (file .entry)) at end depth ⌝ }
 {
     if at == end {
@@ -40,7 +41,7 @@ fn read_fields(file: &[u8], at: usize, end: usize, depth: u8) -> Verdict
 
 // Reads the field at a place and, if it is a group, the fields that it holds.
 fn read_field(file: &[u8], at: usize, end: usize, depth: u8) -> FieldRead
-    requires { ⌜ (at ≤ end) × (end ≤ length (now file)) × (depth ≤ 4) ⌝ }
+    requires { ⌜ (at ≤ end) × (end ≤ length (now file)) × (depth ≤ mostDepth) ⌝ }
     ensures { λ r. ⌜ ReadsField r (now (file .entry)) at end depth ⌝ }
 {
     let Reach::Within(size) = reach_of(file, at, end) else {

@@ -7,7 +7,7 @@ use crate::field::REQUEST;
 use crate::field::Reach;
 use crate::field::reach_of;
 
-// The value of the request that was met, which the next walk starts behind; or no more requests.
+// Where the value of the request that was met begins, and its size; or no more requests. The next walk starts behind the value.
 pub enum Met {
     Request(usize, usize),
     NoMore,

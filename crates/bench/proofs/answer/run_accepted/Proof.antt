@@ -2,6 +2,7 @@
 -- Assumes nothing.
 use native.Mathlib.Omega.{arith}
 use borrow.Author.Needs.{needs}
+use Rattle.job.specs.Line.{mostJobLine}
 use Rattle.job.proofs.LineLaws.{jobLine-le}
 use Rattle.bench.proofs.RunLaws.{front-stands, ready, job-stands}
 use Rattle.bench.proofs.answer.run_accepted.Statement.{statement}
@@ -9,12 +10,12 @@ use Rattle.bench.proofs.answer.run_accepted.Tie as tie
 
 run-all-requires : tie.Need-run-all-requires
 run-all-requires c κs =
-    let j = front-stands _ 25 _ _ _ _ (jobLine-le _) (omega arith) (c .before .before .before .before .before .before .before .before .before .before .before .before .before .before .before .pre .1) (c .before .before .before .before .before .before .before .before .before .before .job-line .ensures) (c .before .before .before .before .before .before .before .end-of .ensures) in
+    let j = front-stands _ mostJobLine _ _ _ _ (jobLine-le _) (omega arith) (c .before .before .before .before .before .before .before .before .before .before .before .before .before .before .before .pre .1) (c .before .before .before .before .before .before .before .before .before .before .job-line .ensures) (c .before .before .before .before .before .before .before .end-of .ensures) in
     ready _ (c .before .before .before .before .before .before .before .before .before .before .before .before .before .before .before .pre .0) _ _ _ (c .before .before .before .before .reply-buffer .ensures) (omega (arith, c .before .before .before .before .before .before .before .before .before .before .before .before .before .before .before .pre .1, j .0 .same-size)) (j .1)
 
 returns : tie.Need-returns
 returns c =
-    let j = front-stands _ 25 _ _ _ _ (jobLine-le _) (omega arith) (c .before .before .before .before .before .before .before .before .before .before .before .before .before .before .before .before .before .before .before .before .before .pre .1) (c .before .before .before .before .before .before .before .before .before .before .before .before .before .before .before .before .job-line .ensures) (c .before .before .before .before .before .before .before .before .before .before .before .before .before .end-of .ensures) in
+    let j = front-stands _ mostJobLine _ _ _ _ (jobLine-le _) (omega arith) (c .before .before .before .before .before .before .before .before .before .before .before .before .before .before .before .before .before .before .before .before .before .pre .1) (c .before .before .before .before .before .before .before .before .before .before .before .before .before .before .before .before .job-line .ensures) (c .before .before .before .before .before .before .before .before .before .before .before .before .before .end-of .ensures) in
     job-stands _ (c .before .before .before .before .before .before .before .before .before .before .before .before .before .before .before .before .before .before .before .before .before .pre .0) _ _ _ _ _ _ _ _ (c .before .before .before .before .before .before .before .before .before .before .before .before .before .before .before .before .before .before .count-requests .ensures) (c .before .before .before .before .before .before .before .before .before .before .before .before .blank-flash .ensures) (c .before .before .before .before .before .before .before .before .before .before .before .blank-eeprom .ensures) (j .0) (c .before .before .before .before .before .run-all .ensures)
 
 pub run-accepted-spec : {M : Type 1} → statement M

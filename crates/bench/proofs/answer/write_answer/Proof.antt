@@ -3,6 +3,7 @@
 use mathlib.Core.Path.{sym, _∙_}
 use native.Mathlib.Omega.{arith}
 use borrow.Author.Needs.{needs}
+use Rattle.job.specs.Line.{mostRefusedLine}
 use Rattle.job.proofs.LineLaws.{refusedLine-le}
 use Rattle.bench.proofs.RunLaws.{front-stands, accepted-stands, refused-stands}
 use Rattle.bench.proofs.answer.write_answer.Statement.{statement}
@@ -16,7 +17,7 @@ returns c = accepted-stands _ (sym (c .before .before .before .before .before .b
 
 returns-2 : tie.Need-returns-2
 returns-2 c =
-    let j = front-stands _ 53 _ _ _ _ (refusedLine-le _ _) (omega arith) (c .before .before .before .before .before .before .before .before .before .before .before .pre) (c .before .before .before .refused-line .ensures) (c .end-of .ensures) in
+    let j = front-stands _ mostRefusedLine _ _ _ _ (refusedLine-le _ _) (omega arith) (c .before .before .before .before .before .before .before .before .before .before .before .pre) (c .before .before .before .refused-line .ensures) (c .end-of .ensures) in
     refused-stands _ _ _ _ _ _ (sym (c .before .before .before .before .before .before .before .before .check-job .ensures) ∙ c .before .before .before .before .before .before .number .given .1) (j .0)
 
 pub write-answer-spec : {M : Type 1} → statement M
