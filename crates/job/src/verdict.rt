@@ -30,13 +30,18 @@ fn read_fields(file: &[u8], at: usize, end: usize, depth: u8) -> Verdict
     requires { ⌜ (at ≤ end) × (end ≤ length (now file)) × (depth ≤ mostDepth) ⌝ }
     ensures { λ r. ⌜ ReadsFields r (now (file .entry)) at end depth ⌝ }
 {
-    if at == end {
-        return Verdict::Accepted;
+    let mut next = at;
+    while next < end {
+        match read_field(file, next, end, depth) {
+            FieldRead::Next(place) => {
+                next = place;
+            }
+            FieldRead::Bad(number, bad) => {
+                return Verdict::Refused(number, bad);
+            }
+        }
     }
-    match read_field(file, at, end, depth) {
-        FieldRead::Next(next) => read_fields(file, next, end, depth),
-        FieldRead::Bad(number, bad) => Verdict::Refused(number, bad),
-    }
+    Verdict::Accepted
 }
 
 // Reads the field at a place and, if it is a group, the fields that it holds.

@@ -2,9 +2,11 @@
 -- bound that is large enough. They call each other; bytes left and depth left, added, are the number that falls.
 -- Assumes nothing.
 use mathlib.Core.Path.{sym, _∙_}
-use Prim.Native.Nat.{ℕ, _+_, _-_, _<_}
+use Prim.Native.Nat.{ℕ, _+_, _-_, _≤_, _<_}
 use native.Mathlib.Omega.{arith}
 use borrow.Author.Needs.{needs}
+use Rattle.job.specs.Verdict.{Verdict}
+use Rattle.job.specs.Read.{ReadsFields}
 use Rattle.job.proofs.FieldLaws.{went-beyond, within, field-beyond, field-bad, field-single, field-group, group-depth}
 use Rattle.job.proofs.VerdictLaws.{fields-none, fields-bad, fields-next, next-bounds, read-bad, read-next, held}
 use borrow.Fn.Kinds.{In}
@@ -42,6 +44,14 @@ abbrev read-fields-below : ℕ → In 1 read-fields-kinds.ps
 read-fields-below t =
     and 1 read-fields-kinds.ps (falls 1 read-fields-kinds.ps _<_ μ-read-fields t) read-fields.Pre
 
+-- the invariant of the loop over a list: what is the verdict on the fields from `next` on is the verdict on those from `at` on
+abbrev read-fields-Inv-loop : read-fields-lts.InvT-loop
+read-fields-Inv-loop file at end depth next₀ next =
+    (at ≤ next) × (next ≤ end) × ((v : Verdict) → ReadsFields v file next end depth → ReadsFields v file at end depth)
+
+abbrev read-fields-μ-loop : read-fields-lts.MeasureT-loop
+read-fields-μ-loop file at end depth next₀ next = end - next
+
 pub +read-field+read-fields-spec : {M : Type 1} → statement M
 +read-field+read-fields-spec = close μ-read-field μ-read-fields (λ t. read-field-lts.spec (
   reach-of-reads.Asked,
@@ -70,13 +80,17 @@ pub +read-field+read-fields-spec : {M : Type 1} → statement M
     (λ c n h. let i = within _ _ _ _ _ (c .before .before .before .before .before .before .before .before .before .before .reach-of .ensures) (c .before .before .before .before .before .before .before .before .size .given .1) in read-next _ _ _ (field-group _ _ _ _ _ (i .not-beyond) (rw (← i .sized) (sym (c .before .before .before .before .before .tag-refusal .ensures) ∙ c .before .before .before .before .if1 .left)) (c .before .before .before .if2 .left) ∙ sym (held _ _ _ _ _ (i .sized) (c .before .before .read-fields .ensures) n (omega (arith, i .sized, i .value-fits))) ∙ c .enum-told2 .given .1) (omega (arith, i .sized)))
     (λ c n h. let i = within _ _ _ _ _ (c .before .before .before .before .before .before .before .before .before .before .before .reach-of .ensures) (c .before .before .before .before .before .before .before .before .before .size .given .1) in read-bad _ _ _ _ (field-group _ _ _ _ _ (i .not-beyond) (rw (← i .sized) (sym (c .before .before .before .before .before .before .tag-refusal .ensures) ∙ c .before .before .before .before .before .if1 .left)) (c .before .before .before .before .if2 .left) ∙ sym (held _ _ _ _ _ (i .sized) (c .before .before .before .read-fields .ensures) n (omega (arith, i .sized, i .value-fits))) ∙ c .before .inner .given .1)))
     λ t. read-fields-lts.spec
-    (read-field-below t, read-field.Post, read-fields-below t, read-fields.Post)
+    (read-field-below t, read-field.Post)
     (read-fields-at t)
     read-fields.Post
-    (λ c n h. fields-none _ _ _ _ _ (omega arith))
+    read-fields-Inv-loop
+    read-fields-μ-loop
+    (λ c. (omega arith, omega arith, λ v r. r))
     (λ c κs. (omega arith, (omega arith, omega arith, omega arith)))
     (λ c. search needs)
-    (λ c κs. let b = next-bounds _ _ _ _ _ (c .before .before .before .read-field .ensures) _ (c .before .next .given .1) in (omega (arith, b), (b .1, omega arith, omega arith)))
+    (λ c. let b = next-bounds _ _ _ _ _ (c .before .before .before .read-field .ensures) _ (c .before .place .given .1) in omega (arith, b))
+    (λ c. let b = next-bounds _ _ _ _ _ (c .before .before .before .read-field .ensures) _ (c .before .place .given .1) in
+    (omega (arith, b), b .1, λ v r. c .before .before .before .before .before .loop .inv .2 v (fields-next _ _ _ _ _ (c .before .before .before .read-field .ensures) _ _ (omega arith) (c .before .place .given .1) r)))
     (λ c. search needs)
-    (λ c. fields-next _ _ _ _ _ (c .before .before .before .before .read-field .ensures) _ _ (omega arith) (c .before .before .next .given .1) (c .read-fields .ensures))
-    (λ c. fields-bad _ _ _ _ _ (c .before .before .before .read-field .ensures) _ _ (omega arith) (c .before .number .given .1))
+    (λ c. c .before .before .before .before .before .loop .inv .2 _ (fields-bad _ _ _ _ _ (c .before .before .before .read-field .ensures) _ _ (omega arith) (c .before .number .given .1)))
+    (λ c. c .before .loop .inv .2 _ (λ n h. fields-none _ _ _ _ _ (omega arith)))
