@@ -130,10 +130,10 @@ fn run_one(
     let config = progress.config;
     let answer = ask_board(file, start, size, before, config, flash, eeprom, reply);
     let end = write_line(number, answer, reply, room, place);
-    let session = answer.session;
+    let after = answer.session;
     let changed = answer.config;
     Progress {
-        session,
+        session: after,
         config: changed,
         number: number + 1,
         place: end,
