@@ -21,13 +21,7 @@ extern "C" {
 
     fn loader_power_up() -> u64;
 
-    fn loader_read_command(
-        sent: *const u8,
-        sent_size: usize,
-        command: &mut u64,
-        body: &mut usize,
-        suffix: &mut usize,
-    ) -> u8;
+    fn loader_read_command(sent: *const u8, sent_size: usize, command: &mut u64, body: &mut usize, suffix: &mut usize) -> u8;
 
     fn loader_write_command(
         command: u64,

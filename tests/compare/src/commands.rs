@@ -66,12 +66,8 @@ pub fn difference(payload: &[u8], tally: &mut Tally) -> Option<String> {
     if (body, suffix) != places || suffix > payload.len() {
         return Some(format!("places read: ours {:?}, second {places:?}", (body, suffix)));
     }
-    let writing = Writing {
-        command,
-        body: payload[body..suffix].to_vec(),
-        suffix: payload[suffix..].to_vec(),
-        room: payload.len() + 7,
-    };
+    let writing =
+        Writing { command, body: payload[body..suffix].to_vec(), suffix: payload[suffix..].to_vec(), room: payload.len() + 7 };
     match writing.write(tally) {
         Err(what) => Some(what),
         Ok((room, count)) => back(payload, &room[..count], body, (answer, command, body, suffix)),

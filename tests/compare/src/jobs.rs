@@ -124,7 +124,11 @@ impl Bench<'_> {
         }
         tally.bench_runs += 1;
         self.running.push_back((file.to_vec(), start(self.words, file)));
-        if self.running.len() > AT_ONCE { self.wait() } else { None }
+        if self.running.len() > AT_ONCE {
+            self.wait()
+        } else {
+            None
+        }
     }
 
     /// Waits for the job that was handed first.

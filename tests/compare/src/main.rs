@@ -44,7 +44,10 @@ fn main() -> ExitCode {
             return ExitCode::FAILURE;
         }
     }
-    println!("compare: {} requests, {} jobs, {} of them through both bench programs, no difference", tally.requests, tally.jobs, tally.bench_runs);
+    println!(
+        "compare: {} requests, {} jobs, {} of them through both bench programs, no difference",
+        tally.requests, tally.jobs, tally.bench_runs
+    );
     let missed = tally.report();
     if !missed.is_empty() {
         println!("NOT REACHED: {}", missed.join(", "));
@@ -114,15 +117,17 @@ fn told(sequence: &Sequence) -> String {
         _ => false,
     };
     let place = if transfer { "in a program transfer: " } else { "" };
-    let mut text = format!(
-        "board: session {:X}h, configuration {:X}h, memories {:?}\n",
-        sequence.session, sequence.config, sequence.fill
-    );
+    let mut text =
+        format!("board: session {:X}h, configuration {:X}h, memories {:?}\n", sequence.session, sequence.config, sequence.fill);
     for step in &sequence.steps {
         text += &match step {
             Step::Ask(request) => format!(
                 "request: setup {}, data {}, flash {}, EEPROM {}, reply {}\n",
-                hex(&request.setup), hex(&request.data), request.flash, request.eeprom, request.reply
+                hex(&request.setup),
+                hex(&request.data),
+                request.flash,
+                request.eeprom,
+                request.reply
             ),
             Step::PowerUp => "power-up\n".into(),
             Step::Session(n) => format!("session set to {n:X}h\n"),

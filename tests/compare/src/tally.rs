@@ -9,9 +9,22 @@ pub const STATES: [u8; 7] = [0, 2, 3, 5, 6, 9, 10];
 const PENDING: [&str; 7] =
     ["nothing", "flash read", "EEPROM read", "blank report", "one byte", "start by reset", "start at address"];
 const COMMANDS: [&str; 16] = [
-    "program flash", "program EEPROM", "read flash", "read EEPROM", "blank check", "erase 0000h", "erase 2000h",
-    "erase 4000h", "erase chip", "write byte", "write HSB", "start by reset", "start at address", "read version",
-    "read byte", "read HSB",
+    "program flash",
+    "program EEPROM",
+    "read flash",
+    "read EEPROM",
+    "blank check",
+    "erase 0000h",
+    "erase 2000h",
+    "erase 4000h",
+    "erase chip",
+    "write byte",
+    "write HSB",
+    "start by reset",
+    "start at address",
+    "read version",
+    "read byte",
+    "read HSB",
 ];
 const LEVELS: [&str; 3] = ["level 0", "level 1", "level 2"];
 const REQUESTS: [&str; 8] = ["DETACH", "DNLOAD", "UPLOAD", "GETSTATUS", "CLRSTATUS", "GETSTATE", "ABORT", "other"];
