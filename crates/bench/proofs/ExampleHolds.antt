@@ -1,4 +1,4 @@
--- The example of specs/Bench.antt, computed from the definitions.
+-- The examples of specs/Bench.antt, computed from the definitions.
 -- Assumes nothing.
 use mathlib.Core.Path.{refl}
 use Rattle.board.specs.Memory.{blankFlash}
@@ -12,8 +12,12 @@ use Rattle.loader.specs.Commands.{perform, obey}
 use Rattle.loader.specs.Requests.{requestOf, dnload, send, upload, respond}
 use Rattle.loader.specs.Refusals.{refusal}
 use Rattle.loader.specs.Step.{ask}
-use Rattle.bench.specs.Bench.{lines, bench, Example}
+use Rattle.bench.specs.Bench.{lines, bench, Example, EmptyJob}
 
 pub example : Example
 unfolding bench verdict fieldVerdict fieldsVerdict tagRefusal andThen requestsOf requestsIn jobLine requestLine decimal lines ask refusal requestOf respond dnload form obey perform upload send blankFlash
 example = refl
+
+pub empty-job : EmptyJob
+unfolding bench verdict fieldsVerdict requestsOf requestsIn jobLine decimal lines
+empty-job = refl

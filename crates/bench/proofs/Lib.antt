@@ -1,3 +1,3 @@
--- The paper's example of the bench program, and the laws of a run.
+-- The paper's examples of the bench program, and the laws of a run.
 pub mod ExampleHolds
 pub mod RunLaws

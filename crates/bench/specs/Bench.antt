@@ -1,4 +1,4 @@
--- What the bench program writes for what it reads, and the paper's example of it, proved in proofs/ExampleHolds.antt.
+-- What the bench program writes for what it reads, and the paper's two examples of it, proved in proofs/ExampleHolds.antt.
 use mathlib.Core.Path.{_≡_}
 use mathlib.Core.List.{List, [], _∷_, _++_}
 use Prim.Native.Nat.{ℕ, suc}
@@ -63,3 +63,7 @@ exampleLines =
 
 abbrev pub Example : Type 0
 Example = bench exampleJob ≡ exampleLines
+
+-- "An empty job is `job 0`."
+abbrev pub EmptyJob : Type 0
+EmptyJob = bench [] ≡ ascii "job 0\n"
