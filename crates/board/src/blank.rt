@@ -12,6 +12,9 @@ pub enum Used {
     Nowhere,
 }
 
+// What an erased byte holds.
+const BLANK: u8 = 0xFF;
+
 // So many bytes are looked at together.
 const STRIDE: usize = 256;
 
@@ -24,7 +27,7 @@ fn stride_blank(flash: &[u8], from: usize) -> bool
     let mut i = from;
     let stop = from + STRIDE;
     while i < stop {
-        if flash[i] != 0xFF {
+        if flash[i] != BLANK {
             blank = false;
         }
         i += 1;
@@ -56,7 +59,7 @@ pub fn first_used(flash: &[u8], start: FlashAddress, end: FlashAddress) -> Used
     let stop = words::least((end.0 as usize) + 1, flash.len());
     let mut i = past_blank(flash, first, stop);
     while i < stop {
-        if flash[i] != 0xFF {
+        if flash[i] != BLANK {
             return Used::At(FlashAddress(i as u16));
         }
         i += 1;
