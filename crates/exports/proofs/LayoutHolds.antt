@@ -1,13 +1,11 @@
 -- What is packed is unpacked again: the statements of specs/Unpacked.antt. Each goes by the four words of a number.
 -- Assumes nothing.
 use mathlib.Core.Path.{_≡_, refl}
-use Prim.Native.Nat.{ℕ, _<_}
+use Prim.Native.Nat.{ℕ}
 use native.Mathlib.Omega.{arith}
 use lib.Dec.{lit≤}
 use Rattle.board.specs.declared.address.Range.the-variants.{Flash, Eeprom}
 use Rattle.board.specs.declared.address.Block.the-variants.{Low, Middle, High}
-use Rattle.board.specs.declared.config.Config.{Config}
-use Rattle.command.specs.declared.command.Command.{Command}
 use Rattle.command.specs.declared.command.Command.the-variants.{Program, Read, BlankCheck, EraseBlock, EraseChip, WriteByte, WriteHsb, StartReset, StartAt, ReadVersion, ReadByte, ReadHsb}
 use Rattle.loader.specs.declared.session.Pending.{Pending}
 use Rattle.loader.specs.declared.session.Pending.the-variants.{Nothing, MemoryRead, BlankReport, OneByte, Start}

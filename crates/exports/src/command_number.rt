@@ -1,6 +1,5 @@
 // A command as a number.
 ghost use mathlib.Core.Path.{_≡_};
-ghost use Prim.Native.Nat.{_<_};
 ghost use Rattle.exports.specs.Layout.{packRange, packBlock, packCommand, commandFor, commandOf};
 use crate::packing::low_byte;
 use crate::packing::packed;

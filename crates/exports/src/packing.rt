@@ -1,6 +1,5 @@
 // Words of 16 bits in a number, and bytes in a word.
 ghost use mathlib.Core.Path.{_≡_};
-ghost use Prim.Native.Nat.{_<_};
 ghost use Rattle.exports.specs.Layout.{packed, word0, word1, word2, word3, lowByte, highByte, twoBytes};
 
 pub fn packed(a: u16, b: u16, c: u16, d: u16) -> u64

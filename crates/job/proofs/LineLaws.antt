@@ -2,12 +2,12 @@
 -- Assumes nothing.
 use mathlib.Core.Path.{_≡_, refl}
 use mathlib.Core.List.{List, [], _∷_, _++_, append-assoc}
-use Prim.Native.Nat.{ℕ, _+_, _*_, _≤_}
+use Prim.Native.Nat.{ℕ, _+_, _≤_}
 use native.Mathlib.Omega.{arith}
 use lib.ListN.{length, length-append}
 use Rattle.job.specs.Text.{mostDigits, ascii, decimal, hexByte, hexBytes}
 use Rattle.job.specs.Line.{Word, Done, Stall, Start, Refused, wordText, replyText, space, mostLine, requestLine, jobLine, refusedLine, mostJobLine, mostRefusedLine}
-use Rattle.job.specs.Room.{jobRest, refusedRest, requestSize, jobSize, refusedSize}
+use Rattle.job.specs.Room.{requestSize, jobSize, refusedSize}
 use Rattle.job.proofs.TextLaws.{length-decimal, length-hexBytes}
 
 module _ (n : ℕ) (w : Word) (st s p : ℕ) (r : List ℕ) where

@@ -1,6 +1,5 @@
 -- `board::blank::past_blank` meets its contract. The invariant: all bytes before `i` are FFh. The measure is the bytes left.
 -- Assumes nothing.
-use mathlib.Core.Path.{_≡_}
 use Prim.Native.Nat.{_-_, _≤_, max}
 use native.Mathlib.Omega.{arith}
 use borrow.Author.Tests.{not-false}
