@@ -4,22 +4,15 @@
 use mathlib.Core.Path.{_≡_, sym, ap, _∙_}
 use mathlib.Core.List.{List}
 use Prim.Native.Nat.{ℕ}
-use Rattle.loader.specs.Session.{Session}
-use Rattle.loader.specs.Result.{Board, Result, Answer}
-use Rattle.loader.specs.Answered.{Handled}
+use Rattle.rules.specs.declared.session.Session.{Session}
+use Rattle.rules.specs.Result.{Board, Result}
+use Rattle.rules.specs.declared.answer.Answer.{Answer}
+use Rattle.rules.specs.Answered.{Handled}
 use Rattle.words.proofs.OneAnswer.{one}
-use Rattle.loader.proofs.request.request_of.Reads as request-of
 use Rattle.loader.proofs.respond.step.Reads as step
-use Rattle.loader.proofs.session.power_up.Reads as power-up
-
-pub of-request-of : (κs : _) (a : _) (r r′ : _) (s s′ : _) → request-of.Post κs a r s → request-of.Post κs a r′ s′ → r ≡ r′
-of-request-of κs a r r′ s s′ p q = one p q
 
 pub of-step : (κs : _) (a : _) (r r′ : _) (s s′ : _) → step.Post κs a r s → step.Post κs a r′ s′ → (r ≡ r′) × (s .1 .1 .1 .1 .0 .now ≡ s′ .1 .1 .1 .1 .0 .now) × (s .1 .1 .1 .1 .1 .0 .now ≡ s′ .1 .1 .1 .1 .1 .0 .now) × (s .1 .1 .1 .1 .1 .1 .0 .now ≡ s′ .1 .1 .1 .1 .1 .1 .0 .now)
 of-step κs a r r′ s s′ p q = (one (p .answered) (q .answered), one (p .flash) (q .flash), one (p .eeprom) (q .eeprom), one (p .reply) (q .reply))
-
-pub of-power-up : (κs : _) (a : _) (r r′ : _) (s s′ : _) → power-up.Post κs a r s → power-up.Post κs a r′ s′ → r ≡ r′
-of-power-up κs a r r′ s s′ p q = one p q
 
 -- `handle` is walked by hand, and its contract is `Handled`
 pub of-handle : (b : Board) (x : Result) (r r′ : Answer) (s s′ : Session) (f f′ e e′ p p′ p₀ : List ℕ) → Handled b x r s f e p p₀ → Handled b x r′ s′ f′ e′ p′ p₀

@@ -1,12 +1,12 @@
 // The handler that the USB interrupt calls.
 ghost use lib.ListN.{length};
-ghost use Rattle.loader.specs.Result.{board as boardOf};
-ghost use Rattle.loader.specs.Step.{ask};
-ghost use Rattle.loader.specs.Answered.{Handled};
-use crate::answer::Answer;
+ghost use Rattle.rules.specs.Result.{board as boardOf};
+ghost use Rattle.rules.specs.Step.{ask};
+ghost use Rattle.rules.specs.Answered.{Handled};
 use crate::respond::step;
-use crate::session::Session;
 use board::Config;
+use rules::Answer;
+use rules::Session;
 
 // "is lent the one session record and updates it in the caller's hands": the step by value, and its session stored back.
 pub fn handle(

@@ -2,26 +2,26 @@
 ghost use mathlib.Core.Path.{_≡_};
 ghost use mathlib.Core.Bool.{false};
 ghost use lib.ListN.{length};
-ghost use Rattle.loader.specs.Result.{board as boardOf};
-ghost use Rattle.loader.specs.Requests.{respond as respondOf};
-ghost use Rattle.loader.specs.Refusals.{badPending};
-ghost use Rattle.loader.specs.Step.{ask};
-ghost use Rattle.loader.specs.Answered.{Room, Stepped};
-use crate::answer::Answer;
-use crate::answer::Outcome;
-use crate::download::dnload;
-use crate::refusal::refusal_of;
-use crate::request::Request;
-use crate::request::request_of;
-use crate::session::Session;
-use crate::status::abort;
-use crate::status::clr_status;
-use crate::status::get_state;
-use crate::status::get_status;
-use crate::status::quiet;
-use crate::status::stall;
-use crate::upload::upload;
+ghost use Rattle.rules.specs.Result.{board as boardOf};
+ghost use Rattle.rules.specs.Requests.{respond as respondOf};
+ghost use Rattle.rules.specs.Refusals.{badPending};
+ghost use Rattle.rules.specs.Step.{ask};
+ghost use Rattle.rules.specs.Answered.{Room, Stepped};
 use board::Config;
+use downloads::download::dnload;
+use requests::refusal::refusal_of;
+use requests::request::request_of;
+use requests::status::abort;
+use requests::status::clr_status;
+use requests::status::get_state;
+use requests::status::get_status;
+use requests::status::quiet;
+use requests::status::stall;
+use rules::Answer;
+use rules::Outcome;
+use rules::Request;
+use rules::Session;
+use uploads::upload::upload;
 
 // A request that is not refused.
 fn respond(

@@ -3,21 +3,21 @@ ghost use mathlib.Core.Path.{_≡_};
 ghost use mathlib.Core.Bool.{false};
 ghost use Prim.Native.Nat.{_≤_, _<_};
 ghost use lib.ListN.{length};
-ghost use Rattle.loader.specs.Session.{idle};
-ghost use Rattle.loader.specs.Result.{board as boardOf};
-ghost use Rattle.loader.specs.Requests.{restOf, send as sendOf, upload as uploadOf};
-ghost use Rattle.loader.specs.Refusals.{badPending, replySize};
-ghost use Rattle.loader.specs.Answered.{bare, Replied, firstOf, Splits, Room, Sendable, sendPending, sentAnswer};
-use crate::answer::Answer;
-use crate::answer::Outcome;
-use crate::session::Pending;
-use crate::session::Session;
-use crate::status::stall;
+ghost use Rattle.rules.specs.Session.{idle};
+ghost use Rattle.rules.specs.Result.{board as boardOf};
+ghost use Rattle.rules.specs.Requests.{restOf, readSent, send as sendOf, upload as uploadOf};
+ghost use Rattle.rules.specs.Refusals.{badPending, replySize};
+ghost use Rattle.rules.specs.Answered.{bare, Replied, firstOf, Splits, Room, Sendable, sendPending, sentAnswer};
 use board::Config;
 use board::EepromAddress;
 use board::FlashAddress;
 use board::Level;
 use board::Range;
+use requests::status::stall;
+use rules::Answer;
+use rules::Outcome;
+use rules::Pending;
+use rules::Session;
 
 // Status 00h, a state, what is still pending, and how many bytes are sent.
 fn sent(config: Config, state: u8, pending: Pending, count: usize) -> Answer
@@ -102,6 +102,17 @@ fn send_byte(config: Config, value: u8, n: u16, reply: &mut [u8]) -> Answer
     sent(config, 2, Pending::Nothing, 1)
 }
 
+// Whether a level lets a memory read be sent.
+fn read_sent(level: Level) -> bool
+    ensures { λ r. ⌜ r ≡ readSent level ⌝ }
+{
+    match level {
+        Level::L0 => true,
+        Level::L1 => true,
+        Level::L2 => false,
+    }
+}
+
 // In state 5 or 9, with wLength over 0.
 fn send(
     session: Session,
@@ -117,11 +128,12 @@ fn send(
     let pending = session.pending;
     match pending {
         Pending::Nothing => stall(session, config),
-        Pending::MemoryRead(range) => match board::level_of(config) {
-            Level::L0 => send_read(config, range, n, flash, eeprom, reply),
-            Level::L1 => send_read(config, range, n, flash, eeprom, reply),
-            Level::L2 => stall(session, config),
-        },
+        Pending::MemoryRead(range) => {
+            if read_sent(board::level_of(config)) {
+                return send_read(config, range, n, flash, eeprom, reply);
+            }
+            stall(session, config)
+        }
         Pending::BlankReport(address) => send_report(config, address, n, reply),
         Pending::OneByte(value) => send_byte(config, value, n, reply),
         Pending::Start(_, _) => stall(session, config),
@@ -146,8 +158,7 @@ pub fn upload(
     }
     let state = session.state;
     match state {
-        5 => send(session, config, n, flash, eeprom, reply),
-        9 => send(session, config, n, flash, eeprom, reply),
+        5 | 9 => send(session, config, n, flash, eeprom, reply),
         _ => stall(session, config),
     }
 }

@@ -41,18 +41,18 @@ use denote.Triple.Table.{entered, cited}
 use denote.Triple.Walked.{says, Stays, stay-ref, stay-dropped, gave-slice, walkOf, AllGo, goes-ref, goes-dropped, goes-gave-slice, Walks, ends-at, walked, walk-meets}
 use denote.Exit.{yes}
 use denote.Signature.{Slot, plain, shrSliceOf}
-use Rattle.loader.specs.Result.{board}
-use Rattle.loader.specs.Step.{ask}
-use Rattle.loader.specs.Answered.{Stepped}
-use Rattle.loader.specs.declared.session.Session.{Session}
+use Rattle.rules.specs.Result.{board}
+use Rattle.rules.specs.Step.{ask}
+use Rattle.rules.specs.Answered.{Stepped}
+use Rattle.rules.specs.declared.session.Session.{Session}
 use Rattle.board.specs.declared.config.Config.{Config}
-use Rattle.loader.specs.declared.answer.Answer.{Answer}
-use Rattle.loader.proofs.session.Session as S
-use Rattle.loader.proofs.session.Session.Laws as S′
+use Rattle.rules.specs.declared.answer.Answer.{Answer}
+use Rattle.rules.proofs.session.Session as S
+use Rattle.rules.proofs.session.Session.Laws as S′
 use Rattle.board.proofs.config.Config as K
 use Rattle.board.proofs.config.Config.Laws as K′
-use Rattle.loader.proofs.answer.Answer as N
-use Rattle.loader.proofs.answer.Answer.Laws as N′
+use Rattle.rules.proofs.answer.Answer as N
+use Rattle.rules.proofs.answer.Answer.Laws as N′
 use Rattle.loader.proofs.respond.step as step
 use Rattle.loader.proofs.respond.step.Symbol as step-def
 use Rattle.loader.proofs.respond.step.Symbol.{name as #step}

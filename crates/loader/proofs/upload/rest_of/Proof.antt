@@ -4,17 +4,19 @@ use mathlib.Core.Path.{sym, ap, subst}
 use Prim.Native.Nat.{_+_, _<_}
 use native.Mathlib.Omega.{arith}
 use Rattle.board.specs.Memory.{rangeStart}
-use Rattle.loader.specs.Requests.{restOf}
-use Rattle.loader.proofs.UploadLaws.{in-word}
+use Rattle.rules.specs.Requests.{restOf}
+use Rattle.rules.proofs.UploadLaws.{in-word}
 use borrow.Author.Needs.{needs}
 use Rattle.loader.proofs.upload.rest_of.Statement.{statement}
 use Rattle.loader.proofs.upload.rest_of.Tie as tie
 
 add-t8 : tie.Need-add-t8
-add-t8 c = let t = subst (λ r. rangeStart r + c .before .before .before .before .args .n < 65536) (c .before .before .range .given .1) (in-word _ _ (c .before .before .before .before .pre)) in omega arith
+add-t8 c = let t = subst (λ r. rangeStart r + c .before .before .before .before .args .n < 65536) (c .before .before .range .given .1)
+    (in-word _ _ (c .before .before .before .before .pre)) in omega arith
 
 add-t10 : tie.Need-add-t10
-add-t10 c = let t = subst (λ r. rangeStart r + c .before .before .before .before .args .n < 65536) (c .before .before .range2 .given .1) (in-word _ _ (c .before .before .before .before .pre)) in omega arith
+add-t10 c = let t = subst (λ r. rangeStart r + c .before .before .before .before .args .n < 65536) (c .before .before .range2 .given .1)
+    (in-word _ _ (c .before .before .before .before .pre)) in omega arith
 
 returns : tie.Need-returns
 returns c = sym (ap (restOf (c .before .before .before .before .args .n)) (c .before .before .range .given .1))

@@ -1,0 +1,132 @@
+// DNLOAD: a command, or the end of a download.
+ghost use mathlib.Core.Path.{_≡_};
+ghost use Rattle.command.specs.Form.{form};
+ghost use Rattle.rules.specs.Result.{board as boardOf, answer};
+ghost use Rattle.rules.specs.Commands.{obey as obeyOf, obeyForm};
+ghost use Rattle.rules.specs.Requests.{endPlain, endDownload, dnload as dnloadOf};
+ghost use Rattle.rules.specs.Answered.{bare, Answered, Sizes, Formed};
+use crate::perform::perform;
+use requests::levels::level_status;
+use requests::status::quiet;
+use requests::status::stall;
+use rules::Answer;
+use rules::Outcome;
+use rules::Pending;
+use rules::Session;
+
+// "wLength over 1,103: stall."
+const MOST_DATA: u16 = 1103;
+
+use board::Config;
+use command::Command;
+use command::Form;
+
+// A command whose form is right: the level, the address, and at last the whole length; then it is done.
+fn obey(
+    session: Session,
+    config: Config,
+    command: Command,
+    sent: &[u8],
+    flash: &mut [u8],
+    eeprom: &mut [u8],
+) -> Answer
+    requires { ⌜ Formed command (now sent) (now flash) (now eeprom) ⌝ }
+    ensures { λ r. ⌜ Answered (boardOf session config (now (flash .entry)) (now (eeprom .entry))) (obeyOf (boardOf session config (now (flash .entry)) (now (eeprom .entry))) command (now (sent .entry))) r (now (flash .exit)) (now (eeprom .exit)) ⌝ }
+{
+    let level = board::level_of(config);
+    let status = level_status(command, level);
+    let wrong = command::bad_address(command);
+    if status != 0x00 {
+        return quiet(config, Outcome::Done, 10, status, Pending::Nothing);
+    }
+    if wrong {
+        return quiet(config, Outcome::Done, 10, 0x08, Pending::Nothing);
+    }
+    if command::wrong_length(command, sent.len()) {
+        return stall(session, config);
+    }
+    perform(config, command, sent, flash, eeprom)
+}
+
+// Data of 1 to 1,103 bytes, in state 2 or 5.
+fn command_sent(
+    session: Session,
+    config: Config,
+    sent: &[u8],
+    flash: &mut [u8],
+    eeprom: &mut [u8],
+) -> Answer
+    requires { ⌜ Sizes (now flash) (now eeprom) ⌝ }
+    ensures { λ r. ⌜ Answered (boardOf session config (now (flash .entry)) (now (eeprom .entry))) (obeyForm (boardOf session config (now (flash .entry)) (now (eeprom .entry))) (form (now (sent .entry))) (now (sent .entry))) r (now (flash .exit)) (now (eeprom .exit)) ⌝ }
+{
+    match command::form_of(sent) {
+        Form::Is(command) => obey(session, config, command, sent, flash, eeprom),
+        Form::Unlisted => stall(session, config),
+    }
+}
+
+// The end of a download that no start is pending for.
+fn ended(session: Session, config: Config) -> Answer
+    ensures { λ r. ⌜ r ≡ answer (endPlain (bare session config)) ⌝ }
+{
+    if session.state == 5 {
+        return quiet(config, Outcome::Done, 6, session.status, Pending::Nothing);
+    }
+    stall(session, config)
+}
+
+// wLength 0: a pending start is answered in 3 and 5; else state 5 becomes 6.
+fn end_download(session: Session, config: Config) -> Answer
+    ensures { λ r. ⌜ r ≡ answer (endDownload (bare session config)) ⌝ }
+{
+    let state = session.state;
+    let pending = session.pending;
+    match pending {
+        Pending::Start(kind, address) => match state {
+            3 => quiet(
+                config,
+                Outcome::Started(kind, address),
+                0,
+                session.status,
+                Pending::Nothing,
+            ),
+            5 => quiet(
+                config,
+                Outcome::Started(kind, address),
+                0,
+                session.status,
+                Pending::Nothing,
+            ),
+            _ => stall(session, config),
+        },
+        Pending::Nothing => ended(session, config),
+        Pending::MemoryRead(_) => ended(session, config),
+        Pending::BlankReport(_) => ended(session, config),
+        Pending::OneByte(_) => ended(session, config),
+    }
+}
+
+// DNLOAD with wLength n.
+pub fn dnload(
+    session: Session,
+    config: Config,
+    n: u16,
+    sent: &[u8],
+    flash: &mut [u8],
+    eeprom: &mut [u8],
+) -> Answer
+    requires { ⌜ Sizes (now flash) (now eeprom) ⌝ }
+    ensures { λ r. ⌜ Answered (boardOf session config (now (flash .entry)) (now (eeprom .entry))) (dnloadOf (boardOf session config (now (flash .entry)) (now (eeprom .entry))) n (now (sent .entry))) r (now (flash .exit)) (now (eeprom .exit)) ⌝ }
+{
+    if MOST_DATA < n {
+        return stall(session, config);
+    }
+    if n == 0 {
+        return end_download(session, config);
+    }
+    let state = session.state;
+    match state {
+        2 | 5 => command_sent(session, config, sent, flash, eeprom),
+        _ => stall(session, config),
+    }
+}

@@ -1,0 +1,122 @@
+// What an accepted command does.
+ghost use mathlib.Core.Path.{_≡_};
+ghost use mathlib.Core.Bool.{true};
+ghost use lib.ListN.{length};
+ghost use Rattle.board.specs.Config.{readable, configByte};
+ghost use Rattle.rules.specs.Session.{idle};
+ghost use Rattle.board.specs.Blank.{usedIn};
+ghost use Rattle.rules.specs.Result.{board as boardOf, answer};
+ghost use Rattle.rules.specs.Commands.{perform as performOf, accept, blankEffect};
+ghost use Rattle.rules.specs.Answered.{Answered, Acceptable, acceptedAnswer};
+use board::ByteRead;
+use board::Config;
+use board::FlashAddress;
+use board::Range;
+use board::Used;
+use command::Command;
+use rules::Answer;
+use rules::Outcome;
+use rules::Pending;
+use rules::Session;
+use rules::StartKind;
+
+// "bootloader version 12h (our choice)".
+const VERSION: u8 = 0x12;
+
+// State 3, a status and what is pending.
+fn accepted(config: Config, status: u8, pending: Pending, pages: usize) -> Answer
+    ensures { λ r. ⌜ r ≡ acceptedAnswer config status pending pages ⌝ }
+{
+    Answer {
+        outcome: Outcome::Done,
+        session: Session {
+            state: 3,
+            status,
+            pending,
+        },
+        config,
+        length: 0,
+        pages,
+    }
+}
+
+// Status 00h and something pending, or nothing; no page is stored.
+fn leaves(config: Config, pending: Pending) -> Answer
+    ensures { λ r. ⌜ r ≡ acceptedAnswer config 0x00 pending 0 ⌝ }
+{
+    accepted(config, 0x00, pending, 0)
+}
+
+// Status 00h, nothing pending, and the pages that were stored.
+fn stores(config: Config, pages: usize) -> Answer
+    ensures { λ r. ⌜ r ≡ acceptedAnswer config 0x00 Pending.Nothing pages ⌝ }
+{
+    accepted(config, 0x00, Pending::Nothing, pages)
+}
+
+// The byte of an index that can be read.
+fn byte_of(config: Config, index: u8) -> u8
+    requires { ⌜ readable index ≡ true ⌝ }
+    ensures { λ r. ⌜ r ≡ configByte index config ⌝ }
+{
+    match board::read_byte(config, index) {
+        ByteRead::Value(value) => value,
+        ByteRead::Unknown => 0,
+    }
+}
+
+fn program(config: Config, range: Range, sent: &[u8], flash: &mut [u8], eeprom: &mut [u8]) -> Answer
+    requires { ⌜ Acceptable (Command.Program range) (now sent) (now flash) (now eeprom) ⌝ }
+    ensures { λ r. ⌜ Answered (boardOf idle config (now (flash .entry)) (now (eeprom .entry))) (accept (Command.Program range) (performOf (boardOf idle config (now (flash .entry)) (now (eeprom .entry))) (Command.Program range) (now (sent .entry)))) r (now (flash .exit)) (now (eeprom .exit)) ⌝ }
+{
+    let body = command::body_place(range);
+    let suffix = body + command::range_count(range);
+    let pages = board::program(range, &sent[body..suffix], flash, eeprom);
+    stores(config, pages)
+}
+
+// The first byte that is not FFh is reported with 05h.
+fn blank_check(config: Config, start: FlashAddress, end: FlashAddress, flash: &[u8]) -> Answer
+    ensures { λ r. ⌜ r ≡ answer (accept (Command.BlankCheck start end) (blankEffect config (usedIn (start .0) (end .0) (now (flash .entry))))) ⌝ }
+{
+    match board::first_used(flash, start, end) {
+        Used::At(address) => accepted(config, 0x05, Pending::BlankReport(address), 0),
+        Used::Nowhere => accepted(config, 0x00, Pending::Nothing, 0),
+    }
+}
+
+// Does what an accepted command says.
+pub fn perform(
+    config: Config,
+    command: Command,
+    sent: &[u8],
+    flash: &mut [u8],
+    eeprom: &mut [u8],
+) -> Answer
+    requires { ⌜ Acceptable command (now sent) (now flash) (now eeprom) ⌝ }
+    ensures { λ r. ⌜ Answered (boardOf idle config (now (flash .entry)) (now (eeprom .entry))) (accept command (performOf (boardOf idle config (now (flash .entry)) (now (eeprom .entry))) command (now (sent .entry)))) r (now (flash .exit)) (now (eeprom .exit)) ⌝ }
+{
+    match command {
+        Command::Program(range) => program(config, range, sent, flash, eeprom),
+        Command::Read(range) => leaves(config, Pending::MemoryRead(range)),
+        Command::BlankCheck(start, end) => blank_check(config, start, end, flash),
+        Command::EraseBlock(block) => stores(config, board::erase_block(flash, block)),
+        Command::EraseChip => {
+            let pages = board::erase_chip(flash);
+            stores(board::config_after_erase(config), pages)
+        }
+        Command::WriteByte(index, value) => leaves(
+            board::write_byte(config, index, value),
+            Pending::Nothing,
+        ),
+        Command::WriteHsb(value) => leaves(board::write_hsb(config, value), Pending::Nothing),
+        Command::StartReset => leaves(
+            config,
+            Pending::Start(StartKind::Reset, FlashAddress(0x0000)),
+        ),
+        Command::StartAt(address) => leaves(config, Pending::Start(StartKind::AtAddress, address)),
+        Command::ReadVersion => leaves(config, Pending::OneByte(VERSION)),
+        Command::ReadByte(index) => leaves(config, Pending::OneByte(byte_of(config, index))),
+        Command::ReadHsb => leaves(config, Pending::OneByte(config.hsb)),
+    }
+}

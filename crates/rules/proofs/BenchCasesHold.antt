@@ -1,0 +1,209 @@
+-- The table of specs/BenchCases.antt holds.
+-- Assumes nothing.
+use mathlib.Core.Path.{_≡_, refl, sym, ap, _∙_, subst}
+use mathlib.Core.Bool.{false}
+use mathlib.Core.List.{List, [], _∷_, _++_, append-assoc}
+use mathlib.Core.Option.{some}
+use Prim.Native.Nat.{ℕ, _+_, _*_, _/_, _%_, _≤_, _<_}
+use native.Mathlib.Nat.{le-antisymm}
+use native.Mathlib.Omega.{arith}
+use lib.Dec.{T, lit<, lit≤, leb→le, ltb→lt, leb, ltb}
+use lib.ListN.{length, take, drop, length-append}
+use lib.Seq.{take-at, drop-at}
+use borrow.Author.Tests.{le-ltb, lt-leb, le-leb, eq-eqb}
+use Rattle.words.specs.Words.{count, Programmed}
+use Rattle.board.specs.Memory.{flashSize, eepromSize, flashPages, lastFlash, flashAddress}
+use Rattle.board.specs.Pages.{pagesMet, programStores, chipStores}
+use Rattle.board.specs.Blank.{usedIn}
+use Rattle.board.specs.Config.{erasedConfig}
+use Rattle.board.specs.Level.{level}
+use Rattle.board.specs.declared.address.Range.{Range}
+use Rattle.board.specs.declared.address.Range.the-variants.{Flash}
+use Rattle.board.specs.declared.config.Config.{Config}
+use Rattle.board.specs.declared.level.Level.{Level}
+use Rattle.board.specs.declared.level.Level.the-variants.{L0, L2}
+use Rattle.board.proofs.PagesLaws.{programStores-programmed, length-programStores, storeAll-chipStores, length-chipStores}
+use Rattle.board.proofs.BlankLaws.{usedIn-whole}
+use Rattle.command.specs.Form.{form}
+use Rattle.command.specs.Address.{badRange, mostBytes}
+use Rattle.command.specs.Transfer.{bodyPlace, bodyOf, transferLength}
+use Rattle.command.specs.declared.command.Command.the-variants.{Program, BlankCheck, EraseChip}
+use Rattle.rules.specs.Session.{Session, session, idle, BlankReport}
+use Rattle.rules.specs.Result.{Board, board, reply, next, Done}
+use Rattle.rules.specs.Commands.{stall, perform, obey, obeyForm, accept, blankEffect, stores, program}
+use Rattle.rules.specs.Requests.{mostData, requestOf, respond, upload, send, getStatus}
+use Rattle.rules.specs.Refusals.{refusal, replySize}
+use Rattle.rules.specs.Step.{step, ask, lastSent}
+use Rattle.rules.specs.BenchCases.{Ready, Unnamed, download, askStatus, askUpload, Moved, line, taken, Answers, programHead, transfer, Programs, checkAll, Finds, Erases, WritesHsb, BenchCases}
+use Rattle.rules.proofs.Ready.{commanded, statusOf}
+
+-- a case that names the first bytes of the data and the answer
+answers-by : {l : Level} {head : List ℕ} {least most : ℕ} {o : Moved} → T (ltb 0 least) → T (leb most mostData)
+    → ((b : Board) → Ready l b → (rest : List ℕ) → least ≤ length (head ++ rest) → length (head ++ rest) ≤ most → obeyForm b (form (head ++ rest)) (head ++ rest) ≡ reply (b .config) (o .outcome) [] (o .session))
+    → Answers l head least most o
+answers-by {l} {head} {least} {most} {o} p q f = record {
+  answers = λ b r u rest h k.
+      let w : 0 < least = ltb→lt 0 least p in
+      let z : most ≤ mostData = leb→le most mostData q in
+      commanded r u (head ++ rest) (omega arith) (omega arith) ∙ f b r rest h k;
+}
+
+-- ---- program transfers (cases 2, 6 and 7)
+
+-- a command to program that passes
+obey-program : (b : Board) (r : Range) (d : List ℕ) → level (b .config) ≡ L0 → badRange r ≡ false → length d ≡ transferLength r
+    → obey b (Program r) d ≡ accept (Program r) (program b r d)
+unfolding obey perform
+obey-program b r d l g h = rw (l, g, h, eq-eqb (transferLength r) (transferLength r) refl)
+
+-- the bytes of a transfer lie where its layout says
+module _ (a e : ℕ) (filler pad new suffix : List ℕ) (hf : length filler ≡ 26) (hn : length new ≡ count a e) (hs : length suffix ≡ 16)
+    (ht : length (transfer a e filler pad new suffix) ≡ transferLength (Flash (flashAddress a) (flashAddress e))) where
+  front : List ℕ
+  front = programHead a e ++ filler ++ pad
+
+  length-front : length front ≡ bodyPlace (Flash (flashAddress a) (flashAddress e))
+  unfolding front
+  length-front = simp length-append (omega (arith, simp length-append at ht))
+
+  transfer-body : bodyOf (Flash (flashAddress a) (flashAddress e)) (transfer a e filler pad new suffix) ≡ new
+  unfolding front
+  transfer-body =
+      ap (λ x. take (count a e) (drop (bodyPlace (Flash (flashAddress a) (flashAddress e))) x)) (append-assoc front new suffix)
+      ∙ ap (take (count a e)) (drop-at front (new ++ suffix) (bodyPlace (Flash (flashAddress a) (flashAddress e))) length-front)
+      ∙ take-at new suffix (count a e) hn
+
+  transfer-form : form (transfer a e filler pad new suffix) ≡ some (Program (Flash (flashAddress a) (flashAddress e)))
+  unfolding form
+  transfer-form =
+      let six : 6 ≤ length (transfer a e filler pad new suffix) = omega (arith, ht) in
+      let wa : a / 256 * 256 + a % 256 ≡ a = omega arith in
+      let we : e / 256 * 256 + e % 256 ≡ e = omega arith in
+      rw (le-leb 6 (length (transfer a e filler pad new suffix)) six, wa, we)
+
+programs-by : (a e n k : ℕ) → a ≤ e → e < flashSize → count a e ≤ mostBytes → n ≡ transferLength (Flash (flashAddress a) (flashAddress e)) → k ≡ pagesMet a e → Programs a e n k
+programs-by a e n k forward inside short hn hk = record {
+  programs = λ b r u filler pad new suffix lf ln ls lt.
+      let range : Range = Flash (flashAddress a) (flashAddress e) in
+      let t : List ℕ = transfer a e filler pad new suffix in
+      let good : badRange range ≡ false = rw (le-ltb e a forward, lt-leb flashSize e inside, le-ltb mostBytes (count a e) short) in
+      let q : step b (download u t) ≡ accept (Program range) (stores (b .config) (programStores a e new (b .flash))) =
+      commanded r u t (omega arith) (omega arith)
+      ∙ ap (λ o. obeyForm b o t) (transfer-form a e filler pad new suffix lf ln ls (lt ∙ hn))
+      ∙ obey-program b range t (r .at-level) good (lt ∙ hn)
+      ∙ ap (λ x. accept (Program range) (stores (b .config) (programStores a e x (b .flash)))) (transfer-body a e filler pad new suffix lf ln ls (lt ∙ hn)) in (
+        ap line q ∙ ap taken (length-programStores a e new (b .flash) ∙ sym hk),
+        subst (λ x. Programmed a new (b .flash) (next b x .flash)) (sym q)
+            (programStores-programmed a e new (b .flash) flashPages (r .flash-size) forward (omega (arith, r .flash-size)) ln),
+        ap (λ x. next b x .eeprom) q,
+        ap (λ x. next b x .config) q,
+      );
+}
+
+-- ---- the blank check (case 9)
+
+-- the upload of a pending blank report
+upload-report : (c : Config) (f e : List ℕ) → length f ≡ flashSize → length e ≡ eepromSize → (u : Unnamed)
+    → step (board (session 5 0x05 (BlankReport (flashAddress 0x1234))) c f e) (askUpload u 2) ≡ reply c Done (0x12 ∷ 0x34 ∷ []) idle
+unfolding step ask refusal requestOf respond upload send
+upload-report c f e hf he u =
+    let t5 : ltb (u .room) replySize ≡ false = le-ltb (u .room) replySize (u .enough) in
+    rw (hf, he, t5)
+
+case-9 : Finds L2 0x1234 (0x12 ∷ 0x34 ∷ [])
+unfolding form obey perform
+case-9 = record {
+  finds = λ b r f u.
+      let c : Config = b .config in
+      let report : Session = session 3 0x05 (BlankReport (flashAddress 0x1234)) in
+      let found : usedIn 0 lastFlash (b .flash) ≡ some 0x1234 = usedIn-whole (b .flash) lastFlash 0x1234 (r .flash-size) (lit≤ tt) (f .before) (f .there) in
+      let e1 : step b (checkAll u) ≡ accept (BlankCheck (flashAddress 0) (flashAddress lastFlash)) (blankEffect c (some 0x1234)) =
+      commanded r u (0x03 ∷ 0x01 ∷ 0x00 ∷ 0x00 ∷ 0x7F ∷ 0xFF ∷ []) (lit< tt) (lit≤ tt)
+      ∙ ap (λ o. accept (BlankCheck (flashAddress 0) (flashAddress lastFlash)) (blankEffect c o)) found in
+      let e2 : step (board report c (b .flash) (b .eeprom)) (askStatus u) ≡ getStatus (board report c (b .flash) (b .eeprom)) =
+      statusOf report c (b .flash) (b .eeprom) (r .flash-size) (r .eeprom-size) refl refl u in
+      let e3 = upload-report c (b .flash) (b .eeprom) (r .flash-size) (r .eeprom-size) u in (
+        ap line e1,
+        ap (λ x. lastSent (next b x) (askStatus u ∷ askUpload u 2 ∷ [])) e1
+            ∙ ap (λ x. lastSent (next (board report c (b .flash) (b .eeprom)) x) (askUpload u 2 ∷ [])) e2
+            ∙ ap (λ x. x .sent) e3,
+      );
+}
+
+-- ---- the full chip erase and HSB (cases 11 and 12)
+
+case-11 : Erases L2 256 L0
+unfolding form obey perform
+case-11 = record {
+  erases = λ b r u.
+      let e : step b (download u (0x04 ∷ 0x00 ∷ 0xFF ∷ [])) ≡ accept EraseChip (stores (erasedConfig (b .config)) chipStores) =
+      commanded r u (0x04 ∷ 0x00 ∷ 0xFF ∷ []) (lit< tt) (lit≤ tt) in (
+        ap line e ∙ ap taken length-chipStores,
+        ap (λ x. level (next b x .config)) e,
+        ap (λ x. next b x .flash) e ∙ storeAll-chipStores (b .flash) (r .flash-size),
+        ap (λ x. next b x .eeprom) e,
+        record {
+          bsb = ap (λ x. x .config .bsb) e;
+          sbv = ap (λ x. x .config .sbv) e;
+          p1cf = ap (λ x. x .config .p1cf) e;
+          p3cf = ap (λ x. x .config .p3cf) e;
+          p4cf = ap (λ x. x .config .p4cf) e;
+          ssb = ap (λ x. x .config .ssb) e;
+          eb = ap (λ x. x .config .eb) e;
+          hsb = ap (λ x. x .config .hsb) e;
+        },
+      );
+}
+
+case-12 : WritesHsb L0 0x4F 0xBB 0x4B
+unfolding form obey perform
+case-12 = record {
+  writes = λ b r h u.
+      let e = commanded r u (0x04 ∷ 0x02 ∷ 0x00 ∷ 0x4F ∷ []) (lit< tt) (lit≤ tt) in
+      (ap line e ∙ simp (r .at-level), ap (λ x. x .config .hsb) e ∙ simp (r .at-level, h));
+}
+
+-- ---- the table
+
+pub bench-cases : BenchCases
+unfolding form obey perform stall
+bench-cases = (
+  refl,
+  (
+    programs-by 0x00AF 0x00AF 64 1 (lit≤ tt) (lit< tt) (lit≤ tt) refl refl,
+    (
+      answers-by tt tt (λ b r t h k. simp (le-antisymm k h, r .at-level, r .in-state-2)),
+      (
+        answers-by tt tt (λ b r t h k. simp (le-antisymm k h, r .at-level)),
+        (
+          answers-by tt tt (λ b r t h k. simp (le-leb _ _ h, r .at-level)),
+          (
+            programs-by 0x007F 0x047E 1103 9 (lit≤ tt) (lit< tt) (lit≤ tt) refl refl,
+            (
+              programs-by 0x7FFF 0x7FFF 80 1 (lit≤ tt) (lit< tt) (lit≤ tt) refl refl,
+              (
+                answers-by tt tt (λ b r t h k. simp (le-leb _ _ h, r .at-level)),
+                (
+                  answers-by tt tt (λ b r t h k. simp (le-antisymm k h, r .at-level)),
+                  (
+                    case-9,
+                    (
+                      answers-by tt tt (λ b r t h k. simp (le-antisymm k h, r .at-level)),
+                      (
+                        case-11,
+                        (
+                          case-12,
+                          tt,
+                        ),
+                      ),
+                    ),
+                  ),
+                ),
+              ),
+            ),
+          ),
+        ),
+      ),
+    ),
+  ),
+)

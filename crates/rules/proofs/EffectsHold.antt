@@ -1,0 +1,262 @@
+-- The statements of specs/Effects.antt hold.
+-- Assumes nothing.
+use mathlib.Core.Path.{_≡_, refl, sym, ap, _∙_, subst}
+use mathlib.Core.Bool.{Bool, true, false, not, false≢true}
+use mathlib.Core.List.{List, [], _∷_}
+use mathlib.Core.Option.{Option, none, some}
+use Prim.Native.Nat.{ℕ}
+use native.Mathlib.Omega.{arith}
+use lib.Dec.{eqb, ltb}
+use borrow.Author.Tests.{ne-eqb, le-ltb}
+use Rattle.board.specs.Memory.{flashPages}
+use Rattle.words.specs.Words.{if_then_else_, among}
+use Rattle.board.specs.Blank.{usedIn}
+use Rattle.board.specs.Level.{level}
+use Rattle.board.specs.declared.address.Range.{Range}
+use Rattle.board.specs.declared.address.Range.the-variants.{Flash, Eeprom}
+use Rattle.board.specs.declared.level.Level.the-variants.{L0}
+use Rattle.board.specs.declared.address.Block.the-variants.{Low, Middle, High}
+use Rattle.words.proofs.WordsLaws.{overlay-programmed}
+use Rattle.board.proofs.PagesLaws.{programStores-programmed, blockStores-programmed, storeAll-chipStores, length-programStores, length-blockStores, length-chipStores, pagesMet-le}
+use Rattle.command.specs.Form.{form}
+use Rattle.command.specs.Address.{badAddress}
+use Rattle.command.specs.Transfer.{bodyOf, badLength}
+use Rattle.command.specs.Reader.{partsOf, readCommand}
+use Rattle.command.specs.declared.reader.Reading.the-variants.{Taken}
+use Rattle.command.specs.declared.command.Command.{Command}
+use Rattle.command.specs.declared.command.Command.the-variants.{Program, Read, BlankCheck, EraseBlock, EraseChip, WriteByte, WriteHsb, StartReset, StartAt, ReadVersion, ReadByte, ReadHsb}
+use Rattle.command.proofs.AddressLaws.{Good, badRange-good}
+use Rattle.command.proofs.TransferLaws.{length-bodyOf}
+use Rattle.command.proofs.ReaderLaws.{passed, taken}
+use Rattle.rules.specs.Result.{Board, Result, Stall, Refused}
+use Rattle.rules.specs.Levels.{levelStatus}
+use Rattle.rules.specs.Commands.{stall, setStatus, perform, accept, blankEffect, forbidden, obey, obeyForm}
+use Rattle.rules.specs.Requests.{requestOf, Request, Dnload, Upload, GetStatus, GetState, ClrStatus, Abort, Other, mostData, respond, dnload, endPlain, endDownload, upload}
+use Rattle.rules.specs.Refusals.{refusal}
+use Rattle.rules.specs.Step.{Ask, PowerUp, ask, powerUp, step}
+use Rattle.rules.specs.Effects.{Leaves, Effects, MovesNothing, RefusalsMoveNothing, RefusalsGiven, AcceptedRightly, AcceptedOnly, Commands, AcceptedAlways, NotAcceptedSaid, StatusStays, AnsweredIsRead}
+use Rattle.rules.proofs.Ready.{commanded}
+use Rattle.rules.proofs.Shape.{Passed, Shape, refused, still, did, shape, isRefused}
+
+-- an answer that changes neither memory nor configuration
+leaves-still : (b : Board) (d : List ℕ) (r : Result) → r .stored ≡ [] → r .patched ≡ [] → r .config ≡ b .config → r .accepted ≡ none → Leaves b d r
+leaves-still b d r s p c a = record { flash = rw (a, s); eeprom = rw (a, p); config = rw a c; page-count = rw (a, s) }
+
+leaves-blank : (b : Board) (a e : _) (d : List ℕ) (o : Option ℕ) → Leaves b d (accept (BlankCheck a e) (blankEffect (b .config) o))
+leaves-blank b a e d none = record { flash = refl; eeprom = refl; config = refl; page-count = refl }
+leaves-blank b a e d (some x) = record { flash = refl; eeprom = refl; config = refl; page-count = refl }
+
+leaves-program : (b : Board) (r : Range) (d : List ℕ) → Passed b (Program r) d → Leaves b d (accept (Program r) (perform b (Program r) d))
+unfolding perform
+leaves-program b (Flash a e) d p =
+    let g : Good (Flash a e) = badRange-good (Flash a e) (p .address-right) in
+    record {
+      flash = programStores-programmed (a .0) (e .0) (bodyOf (Flash a e) d) (b .flash) flashPages (p .flash-size) (g .forward)
+          (omega (arith, g .inside, p .flash-size)) (length-bodyOf (Flash a e) d (p .length-right));
+      eeprom = refl;
+      config = refl;
+      page-count = (length-programStores (a .0) (e .0) _ (b .flash), rw length-programStores (pagesMet-le (a .0) (e .0) (g .short)));
+    }
+leaves-program b (Eeprom a e) d p =
+    let g : Good (Eeprom a e) = badRange-good (Eeprom a e) (p .address-right) in
+    record {
+      flash = refl;
+      eeprom = overlay-programmed (a .0) (bodyOf (Eeprom a e) d) (b .eeprom)
+          (omega (arith, g .forward, g .inside, p .eeprom-size, length-bodyOf (Eeprom a e) d (p .length-right)));
+      config = refl;
+      page-count = refl;
+    }
+
+leaves-did : (b : Board) (k : Command) (d : List ℕ) → Passed b k d → Leaves b d (accept k (perform b k d))
+unfolding perform
+leaves-did b (Program r) d p = leaves-program b r d p
+leaves-did b (Read r) d p = record { flash = refl; eeprom = refl; config = refl; page-count = refl }
+leaves-did b (BlankCheck a e) d p = leaves-blank b a e d (usedIn (a .0) (e .0) (b .flash))
+leaves-did b (EraseBlock Low) d p = record
+    { flash = blockStores-programmed Low (b .flash) (p .flash-size); eeprom = refl; config = refl; page-count = length-blockStores Low (b .flash) }
+leaves-did b (EraseBlock Middle) d p = record
+    { flash = blockStores-programmed Middle (b .flash) (p .flash-size); eeprom = refl; config = refl; page-count = length-blockStores Middle (b .flash) }
+leaves-did b (EraseBlock High) d p = record
+    { flash = blockStores-programmed High (b .flash) (p .flash-size); eeprom = refl; config = refl; page-count = length-blockStores High (b .flash) }
+leaves-did b EraseChip d p = record { flash = storeAll-chipStores (b .flash) (p .flash-size); eeprom = refl; config = refl; page-count = length-chipStores }
+leaves-did b (WriteByte i v) d p = record { flash = refl; eeprom = refl; config = refl; page-count = refl }
+leaves-did b (WriteHsb v) d p = record { flash = refl; eeprom = refl; config = refl; page-count = refl }
+leaves-did b StartReset d p = record { flash = refl; eeprom = refl; config = refl; page-count = refl }
+leaves-did b (StartAt a) d p = record { flash = refl; eeprom = refl; config = refl; page-count = refl }
+leaves-did b ReadVersion d p = record { flash = refl; eeprom = refl; config = refl; page-count = refl }
+leaves-did b (ReadByte i) d p = record { flash = refl; eeprom = refl; config = refl; page-count = refl }
+leaves-did b ReadHsb d p = record { flash = refl; eeprom = refl; config = refl; page-count = refl }
+
+leaves : (b : Board) (k : ℕ) (d : List ℕ) (r : Result) → Shape b k d r → Leaves b d r
+leaves b k d r (refused q) = leaves-still b d r (ap (λ x. x .stored) q) (ap (λ x. x .patched) q) (ap (λ x. x .config) q) (ap (λ x. x .accepted) q)
+leaves b k d r (still o bs s z q) = leaves-still b d r (ap (λ x. x .stored) q) (ap (λ x. x .patched) q) (ap (λ x. x .config) q) (ap (λ x. x .accepted) q)
+leaves b k d r (did c p q) = subst (λ x. Leaves b d x) (sym q) (leaves-did b c d p)
+
+pub effects : Effects
+unfolding step
+effects b (Ask setup d n) = leaves b (refusal b setup d n) d (ask b setup d n) (shape b setup d n)
+effects b PowerUp = leaves-still b [] (powerUp b) refl refl refl refl
+
+-- ---- refusals
+
+moves-nothing : (b : Board) (number k : ℕ) (d : List ℕ) (r : Result) → Shape b number d r → r .outcome ≡ Refused k → MovesNothing b k number r
+moves-nothing b number k d r (refused q) e =
+    let o : Refused number ≡ Refused k = sym (ap (λ x. x .outcome) q) ∙ e in
+    record { its-number = cc; nothing-sent = rw q; no-pages = rw q; board-stays = rw q }
+moves-nothing b number k d r (still o bs s z q) e =
+    let w : true ≡ false = ap isRefused (sym e ∙ ap (λ x. x .outcome) q) ∙ z in
+    absurd (let n : _≡_ {A = ℕ} 0 1 = cc in omega arith)
+moves-nothing b number k d r (did c p q) e =
+    let w : true ≡ false = ap isRefused (sym e ∙ ap (λ x. x .outcome) q) in
+    absurd (let n : _≡_ {A = ℕ} 0 1 = cc in omega arith)
+
+pub refusals-move-nothing : RefusalsMoveNothing
+refusals-move-nothing b setup d n k = moves-nothing b (refusal b setup d n) k d (ask b setup d n) (shape b setup d n)
+
+pub refusals-given : RefusalsGiven
+unfolding ask
+refusals-given b setup d n h = rw (ne-eqb (refusal b setup d n) 0 h)
+
+-- ---- what is accepted
+
+accepted-rightly : (b : Board) (number : ℕ) (d : List ℕ) (k : Command) (r : Result) → Shape b number d r → r .accepted ≡ some k → AcceptedRightly b d k r
+unfolding readCommand
+accepted-rightly b number d k r (refused q) e =
+    let z : none ≡ some k = sym (ap (λ x. x .accepted) q) ∙ e in
+    absurd (let n : _≡_ {A = ℕ} 0 1 = cc in omega arith)
+accepted-rightly b number d k r (still o bs s t q) e =
+    let z : none ≡ some k = sym (ap (λ x. x .accepted) q) ∙ e in
+    absurd (let n : _≡_ {A = ℕ} 0 1 = cc in omega arith)
+accepted-rightly b number d k r (did c p q) e =
+    let z : some c ≡ some k = sym (ap (λ x. x .accepted) q) ∙ e in
+    let same : c ≡ k = cc in
+    subst (λ y. AcceptedRightly b d y r) same (record {
+      read = rw (p .formed, p .address-right, p .length-right);
+      allowed = p .level-right;
+      done = ap (λ x. x .outcome) q;
+      in-state-3 = ap (λ x. x .session .state) q;
+    })
+
+pub accepted-only : AcceptedOnly
+accepted-only b setup d n k = accepted-rightly b (refusal b setup d n) d k (ask b setup d n) (shape b setup d n)
+
+-- a command's answer, when DNLOAD gives one
+commands-answer : (b : Board) (setup d : List ℕ) (n : ℕ) → Commands b setup d n → ask b setup d n ≡ obeyForm b (form d) d
+unfolding ask respond dnload
+commands-answer b setup d n c =
+    let m : ℕ = c .bytes in
+    rw (c .not-refused, c .dnload, le-ltb mostData m (c .not-too-many), ne-eqb m 0 (omega (arith, c .some-bytes)), c .in-state)
+
+pub accepted-always : AcceptedAlways
+unfolding obey
+accepted-always b setup d n k c q a =
+    let p = passed d k q in
+    ap (λ x. x .accepted) (commands-answer b setup d n c ∙ ap (λ o. obeyForm b o d) (p .formed)) ∙ rw (a, p .address-right, p .length-right)
+
+-- a command is accepted, or state 10 is left
+said : (b : Board) (d : List ℕ) (o : Option Command) → obeyForm b o d .accepted ≡ none → obeyForm b o d .session .state ≡ 10
+unfolding stall obey
+said b d none q = refl
+said b d (some k) q = go (forbidden b k) (badAddress k) (badLength k d) q
+  where
+    answer : Bool → Bool → Bool → Result
+    answer t u w =
+        if t then setStatus b (levelStatus k (level (b .config))) else
+        if u then setStatus b 0x08 else
+        if w then stall b else
+        accept k (perform b k d)
+
+    go : (t u w : Bool) → answer t u w .accepted ≡ none → answer t u w .session .state ≡ 10
+    go true u w q = refl
+    go false true w q = refl
+    go false false true q = refl
+    go false false false q = absurd (let n : _≡_ {A = ℕ} 0 1 = cc in omega arith)
+
+pub not-accepted-said : NotAcceptedSaid
+not-accepted-said b setup d n c q =
+    let e = commands-answer b setup d n c in
+    ap (λ x. x .session .state) e ∙ said b d (form d) (sym (ap (λ x. x .accepted) e) ∙ q)
+
+-- ---- an error status
+
+module _ (b : Board) (ten : b .session .state ≡ 10) where
+  abbrev Kept : Result → Type 0
+  Kept r = (r .session .state ≡ 10) × (r .session .status ≡ b .session .status)
+
+  kept-stall : Kept (stall b)
+  unfolding stall
+  kept-stall = (refl, rw ten)
+
+  -- whatever two tests say
+  kept-both : (t u : Bool) (x : Result) → Kept x → Kept (if t then x else if u then x else x)
+  kept-both true u x h = h
+  kept-both false true x h = h
+  kept-both false false x h = h
+
+  kept-endDownload : endDownload b ≡ stall b
+  unfolding endDownload endPlain
+  kept-endDownload = rw ten
+
+  kept-respond : (q : Request) (d : List ℕ) → (q ≡ ClrStatus → ⊥) → Kept (respond b q d)
+  unfolding respond dnload upload
+  kept-respond (Dnload n) d h =
+      let t : among (b .session .state) (2 ∷ 5 ∷ []) ≡ false = rw ten in
+      rw (kept-endDownload, t) (kept-both (ltb mostData n) (eqb n 0) (stall b) kept-stall)
+  kept-respond (Upload n) d h =
+      let t : among (b .session .state) (5 ∷ 9 ∷ []) ≡ false = rw ten in
+      rw t kept-stall
+  kept-respond GetStatus d h = (rw ten, refl)
+  kept-respond GetState d h = (ten, refl)
+  kept-respond ClrStatus d h = absurd (h refl)
+  kept-respond Abort d h =
+      let t : among (b .session .state) (2 ∷ 3 ∷ 5 ∷ 6 ∷ 9 ∷ []) ≡ false = rw ten in
+      rw t kept-stall
+  kept-respond Other d h = kept-stall
+
+  kept-ask : (t : Bool) (x y : Result) → Kept x → Kept y → Kept (if t then x else y)
+  kept-ask true x y h k = h
+  kept-ask false x y h k = k
+
+pub status-stays : StatusStays
+unfolding ask
+status-stays b setup d n ten h =
+    kept-ask b ten (eqb (refusal b setup d n) 0) (respond b (requestOf setup) d) _ (kept-respond b ten (requestOf setup) d h) (ten, refl)
+
+-- ---- the reader and the board
+
+-- at level 0 nothing but an SSB value is forbidden, and a write of a byte has neither an address nor a length to be wrong
+forbidden-plain : (k : Command) (d : List ℕ) → not (eqb (levelStatus k L0) 0x00) ≡ true → (badAddress k ≡ false) × (badLength k d ≡ false)
+forbidden-plain (WriteByte i v) d q = (refl, refl)
+forbidden-plain (Program r) d q = absurd (false≢true q)
+forbidden-plain (Read r) d q = absurd (false≢true q)
+forbidden-plain (BlankCheck a e) d q = absurd (false≢true q)
+forbidden-plain (EraseBlock b) d q = absurd (false≢true q)
+forbidden-plain EraseChip d q = absurd (false≢true q)
+forbidden-plain (WriteHsb v) d q = absurd (false≢true q)
+forbidden-plain StartReset d q = absurd (false≢true q)
+forbidden-plain (StartAt a) d q = absurd (false≢true q)
+forbidden-plain ReadVersion d q = absurd (false≢true q)
+forbidden-plain (ReadByte i) d q = absurd (false≢true q)
+forbidden-plain ReadHsb d q = absurd (false≢true q)
+
+-- which tests stop a command that is neither stalled nor given 08h
+answered : (b : Board) (k : Command) (d : List ℕ) → level (b .config) ≡ L0 → (t u w : Bool) → forbidden b k ≡ t → badAddress k ≡ u → badLength k d ≡ w
+    → (obey b k d .outcome ≡ Stall → ⊥) → (obey b k d .session .status ≡ 0x08 → ⊥) → (badAddress k ≡ false) × (badLength k d ≡ false)
+unfolding obey stall
+answered b k d l true u w f a e s v = forbidden-plain k d (rw l at f)
+answered b k d l false true w f a e s v = absurd (v (rw (f, a)))
+answered b k d l false false true f a e s v = absurd (s (rw (f, a, e)))
+answered b k d l false false false f a e s v = (a, e)
+
+read-form : (b : Board) (d : List ℕ) (o : Option Command) → form d ≡ o → level (b .config) ≡ L0
+    → (obeyForm b o d .outcome ≡ Stall → ⊥) → (obeyForm b o d .session .status ≡ 0x08 → ⊥) → (k : Command) × (readCommand d ≡ Taken k (partsOf k d))
+unfolding stall
+read-form b d none f l s v = absurd (s refl)
+read-form b d (some k) f l s v =
+    let p = answered b k d l (forbidden b k) (badAddress k) (badLength k d) refl refl refl s v in
+    (k, taken d k (record { formed = f; address-right = p .0; length-right = p .1 }))
+
+pub answered-is-read : AnsweredIsRead
+answered-is-read b r u d h m s v =
+    let e = commanded r u d h m in
+    read-form b d (form d) refl (r .at-level) (λ q. s (ap (λ x. x .outcome) e ∙ q)) (λ q. v (ap (λ x. x .session .status) e ∙ q))

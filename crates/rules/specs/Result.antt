@@ -1,0 +1,63 @@
+-- What a request gives, as data: the answer, and what it does to the board. Assumes nothing: these are definitions.
+use mathlib.Core.List.{List, [], _∷_, _++_}
+use mathlib.Core.Option.{Option, none}
+use Prim.Native.Nat.{ℕ}
+use lib.ListN.{length, drop}
+use Rattle.words.specs.Words.{overlay}
+use Rattle.board.specs.Pages.{Store, storeAll}
+use Rattle.board.specs.declared.address.EepromAddress.{EepromAddress}
+use Rattle.board.specs.declared.config.Config.{Config}
+use Rattle.command.specs.declared.command.Command.{Command}
+use Rattle.rules.specs.Session.{Session}
+pub use Rattle.rules.specs.declared.answer.Outcome.{Outcome}
+pub use Rattle.rules.specs.declared.answer.Outcome.the-variants.{Done, Stall, Started, Refused}
+pub use Rattle.rules.specs.declared.answer.Answer.{Answer}
+
+-- the board: session, configuration and the two memories
+pub record Board : Type 0 where
+  pub session : Session
+  pub config : Config
+  pub flash : List ℕ
+  pub eeprom : List ℕ
+
+abbrev pub board : Session → Config → List ℕ → List ℕ → Board
+board s c f e = record { session = s; config = c; flash = f; eeprom = e }
+
+-- bytes programmed into the EEPROM from an address on
+pub record Patch : Type 0 where
+  pub at : EepromAddress
+  pub bytes : List ℕ
+
+abbrev pub patchAll : List Patch → List ℕ → List ℕ
+patchAll [] m = m
+patchAll (p ∷ ps) m = patchAll ps (overlay (p .at .0) (p .bytes) m)
+
+-- outcome and bytes sent; session and configuration after it; the page stores; the EEPROM's new bytes; the command that was
+-- accepted, if one was
+pub record Result : Type 0 where
+  pub outcome : Outcome
+  pub sent : List ℕ
+  pub session : Session
+  pub config : Config
+  pub stored : List Store
+  pub patched : List Patch
+  pub accepted : Option Command
+
+-- "Each answer carries a page count .. It equals the pages that the definition stores, one after another"
+abbrev pub pages : Result → ℕ
+pages r = length (r .stored)
+
+-- the board after it
+abbrev pub next : Board → Result → Board
+next b r = board (r .session) (r .config) (storeAll (r .stored) (b .flash)) (patchAll (r .patched) (b .eeprom))
+
+-- the answer, and the reply buffer after it: "reply bytes past those sent stay"
+abbrev pub answer : Result → Answer
+answer r = record { outcome = r .outcome; session = r .session; config = r .config; length = length (r .sent); pages = pages r }
+
+abbrev pub replyAfter : Result → List ℕ → List ℕ
+replyAfter r reply = r .sent ++ drop (length (r .sent)) reply
+
+-- an answer that changes neither memory nor configuration and accepts no command
+abbrev pub reply : Config → Outcome → List ℕ → Session → Result
+reply c o bs s = record { outcome = o; sent = bs; session = s; config = c; stored = []; patched = []; accepted = none }

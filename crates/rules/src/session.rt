@@ -1,0 +1,24 @@
+// The session record.
+use board::FlashAddress;
+use board::Range;
+
+pub enum StartKind {
+    Reset,
+    AtAddress,
+}
+
+// What is pending.
+pub enum Pending {
+    Nothing,
+    MemoryRead(Range),
+    BlankReport(FlashAddress),
+    OneByte(u8),
+    // The address is 0000h for a reset.
+    Start(StartKind, FlashAddress),
+}
+
+pub struct Session {
+    pub state: u8,
+    pub status: u8,
+    pub pending: Pending,
+}
