@@ -4,11 +4,17 @@ ghost use Rattle.command.specs.Form.{form};
 ghost use Rattle.rules.specs.Result.{board as boardOf, answer};
 ghost use Rattle.rules.specs.Commands.{obey as obeyOf, obeyForm};
 ghost use Rattle.rules.specs.Requests.{endPlain, endDownload, dnload as dnloadOf};
+ghost use Rattle.downloads.specs.Download.{downloaded};
 ghost use Rattle.rules.specs.Answered.{bare, Answered, Sizes, Formed};
 use crate::perform::perform;
-use requests::levels::level_status;
-use requests::status::quiet;
-use requests::status::stall;
+use board::Config;
+use board::EEPROM_SIZE;
+use board::FLASH_SIZE;
+use command::Command;
+use command::Form;
+use requests::level_status;
+use requests::quiet;
+use requests::stall;
 use rules::Answer;
 use rules::Outcome;
 use rules::Pending;
@@ -16,10 +22,6 @@ use rules::Session;
 
 // "wLength over 1,103: stall."
 const MOST_DATA: u16 = 1103;
-
-use board::Config;
-use command::Command;
-use command::Form;
 
 // A command whose form is right: the level, the address, and at last the whole length; then it is done.
 fn obey(
@@ -31,7 +33,8 @@ fn obey(
     eeprom: &mut [u8],
 ) -> Answer
     requires { ⌜ Formed command (now sent) (now flash) (now eeprom) ⌝ }
-    ensures { λ r. ⌜ Answered (boardOf session config (now (flash .entry)) (now (eeprom .entry))) (obeyOf (boardOf session config (now (flash .entry)) (now (eeprom .entry))) command (now (sent .entry))) r (now (flash .exit)) (now (eeprom .exit)) ⌝ }
+    ensures { λ r. let b = boardOf session config (now (flash .entry)) (now (eeprom .entry)) in
+        ⌜ Answered b (obeyOf b command (now (sent .entry))) r (now (flash .exit)) (now (eeprom .exit)) ⌝ }
 {
     let level = board::level_of(config);
     let status = level_status(command, level);
@@ -57,7 +60,8 @@ fn command_sent(
     eeprom: &mut [u8],
 ) -> Answer
     requires { ⌜ Sizes (now flash) (now eeprom) ⌝ }
-    ensures { λ r. ⌜ Answered (boardOf session config (now (flash .entry)) (now (eeprom .entry))) (obeyForm (boardOf session config (now (flash .entry)) (now (eeprom .entry))) (form (now (sent .entry))) (now (sent .entry))) r (now (flash .exit)) (now (eeprom .exit)) ⌝ }
+    ensures { λ r. let b = boardOf session config (now (flash .entry)) (now (eeprom .entry)) in
+        ⌜ Answered b (obeyForm b (form (now (sent .entry))) (now (sent .entry))) r (now (flash .exit)) (now (eeprom .exit)) ⌝ }
 {
     match command::form_of(sent) {
         Form::Is(command) => obey(session, config, command, sent, flash, eeprom),
@@ -83,14 +87,7 @@ fn end_download(session: Session, config: Config) -> Answer
     let pending = session.pending;
     match pending {
         Pending::Start(kind, address) => match state {
-            3 => quiet(
-                config,
-                Outcome::Started(kind, address),
-                0,
-                session.status,
-                Pending::Nothing,
-            ),
-            5 => quiet(
+            3 | 5 => quiet(
                 config,
                 Outcome::Started(kind, address),
                 0,
@@ -106,8 +103,8 @@ fn end_download(session: Session, config: Config) -> Answer
     }
 }
 
-// DNLOAD with wLength n.
-pub fn dnload(
+// DNLOAD with wLength n, for memories of their sizes.
+fn dnload_sized(
     session: Session,
     config: Config,
     n: u16,
@@ -116,7 +113,8 @@ pub fn dnload(
     eeprom: &mut [u8],
 ) -> Answer
     requires { ⌜ Sizes (now flash) (now eeprom) ⌝ }
-    ensures { λ r. ⌜ Answered (boardOf session config (now (flash .entry)) (now (eeprom .entry))) (dnloadOf (boardOf session config (now (flash .entry)) (now (eeprom .entry))) n (now (sent .entry))) r (now (flash .exit)) (now (eeprom .exit)) ⌝ }
+    ensures { λ r. let b = boardOf session config (now (flash .entry)) (now (eeprom .entry)) in
+        ⌜ Answered b (dnloadOf b n (now (sent .entry))) r (now (flash .exit)) (now (eeprom .exit)) ⌝ }
 {
     if MOST_DATA < n {
         return stall(session, config);
@@ -129,4 +127,25 @@ pub fn dnload(
         2 | 5 => command_sent(session, config, sent, flash, eeprom),
         _ => stall(session, config),
     }
+}
+
+// DNLOAD with wLength n. Memories that have not their sizes are not touched: it stalls.
+pub fn dnload(
+    session: Session,
+    config: Config,
+    n: u16,
+    sent: &[u8],
+    flash: &mut [u8],
+    eeprom: &mut [u8],
+) -> Answer
+    ensures { λ r. let b = boardOf session config (now (flash .entry)) (now (eeprom .entry)) in
+        ⌜ Answered b (downloaded b n (now (sent .entry))) r (now (flash .exit)) (now (eeprom .exit)) ⌝ }
+{
+    if flash.len() != FLASH_SIZE {
+        return stall(session, config);
+    }
+    if eeprom.len() != EEPROM_SIZE {
+        return stall(session, config);
+    }
+    dnload_sized(session, config, n, sent, flash, eeprom)
 }

@@ -67,7 +67,9 @@ fn byte_of(config: Config, index: u8) -> u8
 
 fn program(config: Config, range: Range, sent: &[u8], flash: &mut [u8], eeprom: &mut [u8]) -> Answer
     requires { ⌜ Acceptable (Command.Program range) (now sent) (now flash) (now eeprom) ⌝ }
-    ensures { λ r. ⌜ Answered (boardOf idle config (now (flash .entry)) (now (eeprom .entry))) (accept (Command.Program range) (performOf (boardOf idle config (now (flash .entry)) (now (eeprom .entry))) (Command.Program range) (now (sent .entry)))) r (now (flash .exit)) (now (eeprom .exit)) ⌝ }
+    ensures { λ r. let b = boardOf idle config (now (flash .entry)) (now (eeprom .entry)) in
+        ⌜ Answered b (accept (Command.Program range) (performOf b (Command.Program range) (now (sent .entry))))
+        r (now (flash .exit)) (now (eeprom .exit)) ⌝ }
 {
     let body = command::body_place(range);
     let suffix = body + command::range_count(range);
@@ -77,7 +79,8 @@ fn program(config: Config, range: Range, sent: &[u8], flash: &mut [u8], eeprom: 
 
 // The first byte that is not FFh is reported with 05h.
 fn blank_check(config: Config, start: FlashAddress, end: FlashAddress, flash: &[u8]) -> Answer
-    ensures { λ r. ⌜ r ≡ answer (accept (Command.BlankCheck start end) (blankEffect config (usedIn (start .0) (end .0) (now (flash .entry))))) ⌝ }
+    ensures { λ r. let found = usedIn (start .0) (end .0) (now (flash .entry)) in
+        ⌜ r ≡ answer (accept (Command.BlankCheck start end) (blankEffect config found)) ⌝ }
 {
     match board::first_used(flash, start, end) {
         Used::At(address) => accepted(config, 0x05, Pending::BlankReport(address), 0),
@@ -86,7 +89,7 @@ fn blank_check(config: Config, start: FlashAddress, end: FlashAddress, flash: &[
 }
 
 // Does what an accepted command says.
-pub fn perform(
+pub(crate) fn perform(
     config: Config,
     command: Command,
     sent: &[u8],
@@ -94,7 +97,8 @@ pub fn perform(
     eeprom: &mut [u8],
 ) -> Answer
     requires { ⌜ Acceptable command (now sent) (now flash) (now eeprom) ⌝ }
-    ensures { λ r. ⌜ Answered (boardOf idle config (now (flash .entry)) (now (eeprom .entry))) (accept command (performOf (boardOf idle config (now (flash .entry)) (now (eeprom .entry))) command (now (sent .entry)))) r (now (flash .exit)) (now (eeprom .exit)) ⌝ }
+    ensures { λ r. let b = boardOf idle config (now (flash .entry)) (now (eeprom .entry)) in
+        ⌜ Answered b (accept command (performOf b command (now (sent .entry)))) r (now (flash .exit)) (now (eeprom .exit)) ⌝ }
 {
     match command {
         Command::Program(range) => program(config, range, sent, flash, eeprom),

@@ -7,21 +7,21 @@ ghost use Rattle.rules.specs.Requests.{respond as respondOf};
 ghost use Rattle.rules.specs.Refusals.{badPending};
 ghost use Rattle.rules.specs.Step.{ask};
 ghost use Rattle.rules.specs.Answered.{Room, Stepped};
+use crate::report::get_state;
+use crate::report::get_status;
+use crate::upload::upload;
 use board::Config;
-use downloads::download::dnload;
-use requests::refusal::refusal_of;
-use requests::request::request_of;
-use requests::status::abort;
-use requests::status::clr_status;
-use requests::status::get_state;
-use requests::status::get_status;
-use requests::status::quiet;
-use requests::status::stall;
+use downloads::dnload;
+use requests::abort;
+use requests::clr_status;
+use requests::quiet;
+use requests::refusal_of;
+use requests::request_of;
+use requests::stall;
 use rules::Answer;
 use rules::Outcome;
 use rules::Request;
 use rules::Session;
-use uploads::upload::upload;
 
 // A request that is not refused.
 fn respond(
@@ -35,7 +35,9 @@ fn respond(
 ) -> Answer
     requires { ⌜ Room (now flash) (now eeprom) (now reply) ⌝ }
     requires { ⌜ badPending (session .pending) ≡ false ⌝ }
-    ensures { λ r. ⌜ Stepped (boardOf session config (now (flash .entry)) (now (eeprom .entry))) (respondOf (boardOf session config (now (flash .entry)) (now (eeprom .entry))) request (now (sent .entry))) r (now (flash .exit)) (now (eeprom .exit)) (now (reply .exit)) (now (reply .entry)) ⌝ }
+    ensures { λ r. let b = boardOf session config (now (flash .entry)) (now (eeprom .entry)) in
+        ⌜ Stepped b (respondOf b request (now (sent .entry)))
+        r (now (flash .exit)) (now (eeprom .exit)) (now (reply .exit)) (now (reply .entry)) ⌝ }
 {
     match request {
         Request::Dnload(n) => dnload(session, config, n, sent, flash, eeprom),
@@ -58,7 +60,9 @@ pub fn step(
     eeprom: &mut [u8],
     reply: &mut [u8],
 ) -> Answer
-    ensures { λ r. ⌜ Stepped (boardOf session config (now (flash .entry)) (now (eeprom .entry))) (ask (boardOf session config (now (flash .entry)) (now (eeprom .entry))) (now (setup .entry)) (now (sent .entry)) (length (now (reply .entry)))) r (now (flash .exit)) (now (eeprom .exit)) (now (reply .exit)) (now (reply .entry)) ⌝ }
+    ensures { λ r. let b = boardOf session config (now (flash .entry)) (now (eeprom .entry)) in
+        ⌜ Stepped b (ask b (now (setup .entry)) (now (sent .entry)) (length (now (reply .entry))))
+        r (now (flash .exit)) (now (eeprom .exit)) (now (reply .exit)) (now (reply .entry)) ⌝ }
 {
     let number = refusal_of(session, setup, sent, flash, eeprom, reply);
     if number != 0 {

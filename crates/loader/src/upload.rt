@@ -13,7 +13,7 @@ use board::EepromAddress;
 use board::FlashAddress;
 use board::Level;
 use board::Range;
-use requests::status::stall;
+use requests::stall;
 use rules::Answer;
 use rules::Outcome;
 use rules::Pending;
@@ -66,7 +66,8 @@ fn send_read(
     reply: &mut [u8],
 ) -> Answer
     requires { ⌜ Sendable n (Pending.MemoryRead range) (now flash) (now eeprom) (now reply) ⌝ }
-    ensures { λ r. ⌜ Replied (sendOf (boardOf idle config (now (flash .entry)) (now (eeprom .entry))) n (Pending.MemoryRead range)) r (now (reply .exit)) (now (reply .entry)) ⌝ }
+    ensures { λ r. let b = boardOf idle config (now (flash .entry)) (now (eeprom .entry)) in
+        ⌜ Replied (sendOf b n (Pending.MemoryRead range)) r (now (reply .exit)) (now (reply .entry)) ⌝ }
 {
     let all = command::range_count(range);
     if (n as usize) < all {
@@ -81,7 +82,8 @@ fn send_read(
 fn send_report(config: Config, address: FlashAddress, n: u16, reply: &mut [u8]) -> Answer
     requires { ⌜ 0 < n ⌝ }
     requires { ⌜ replySize ≤ length (now reply) ⌝ }
-    ensures { λ r. ⌜ Replied (sendOf (bare idle config) n (Pending.BlankReport address)) r (now (reply .exit)) (now (reply .entry)) ⌝ }
+    ensures { λ r. let sending = sendOf (bare idle config) n (Pending.BlankReport address) in
+        ⌜ Replied sending r (now (reply .exit)) (now (reply .entry)) ⌝ }
 {
     let high = (address.0 / 256) as u8;
     let low = (address.0 % 256) as u8;
@@ -123,7 +125,8 @@ fn send(
     reply: &mut [u8],
 ) -> Answer
     requires { ⌜ Sendable n (session .pending) (now flash) (now eeprom) (now reply) ⌝ }
-    ensures { λ r. ⌜ Replied (sendPending (boardOf session config (now (flash .entry)) (now (eeprom .entry))) n) r (now (reply .exit)) (now (reply .entry)) ⌝ }
+    ensures { λ r. let b = boardOf session config (now (flash .entry)) (now (eeprom .entry)) in
+        ⌜ Replied (sendPending b n) r (now (reply .exit)) (now (reply .entry)) ⌝ }
 {
     let pending = session.pending;
     match pending {
@@ -141,7 +144,7 @@ fn send(
 }
 
 // UPLOAD with wLength n.
-pub fn upload(
+pub(crate) fn upload(
     session: Session,
     config: Config,
     n: u16,
@@ -151,7 +154,8 @@ pub fn upload(
 ) -> Answer
     requires { ⌜ Room (now flash) (now eeprom) (now reply) ⌝ }
     requires { ⌜ badPending (session .pending) ≡ false ⌝ }
-    ensures { λ r. ⌜ Replied (uploadOf (boardOf session config (now (flash .entry)) (now (eeprom .entry))) n) r (now (reply .exit)) (now (reply .entry)) ⌝ }
+    ensures { λ r. let b = boardOf session config (now (flash .entry)) (now (eeprom .entry)) in
+        ⌜ Replied (uploadOf b n) r (now (reply .exit)) (now (reply .entry)) ⌝ }
 {
     if n == 0 {
         return stall(session, config);

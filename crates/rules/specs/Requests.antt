@@ -104,11 +104,14 @@ startOf (Start k a) = Started k a
 unfoldable pub endPlain : Board → Result
 endPlain b = if eqb (b .session .state) 5 then reply (b .config) Done [] (session 6 (b .session .status) Nothing) else stall b
 
+abbrev pub startStates : List ℕ
+startStates = 3 ∷ 5 ∷ []
+
 -- "wLength 0: in 3 or 5 with a start pending, the answer is start with its kind and address, state 0, nothing pending; else in 5
 -- state 6, nothing pending (both keep the status); else stall."
 unfoldable pub endDownload : Board → Result
 endDownload b =
-    if among (b .session .state) (3 ∷ 5 ∷ []) && startPending (b .session .pending)
+    if among (b .session .state) startStates && startPending (b .session .pending)
     then reply (b .config) (startOf (b .session .pending)) [] (session 0 (b .session .status) Nothing) else
     endPlain b
 
@@ -116,12 +119,15 @@ endDownload b =
 abbrev pub mostData : ℕ
 mostData = 1103
 
+abbrev pub commandStates : List ℕ
+commandStates = 2 ∷ 5 ∷ []
+
 -- "DNLOAD, wLength over 1,103: stall. .. wLength 1 to 1,103: a command in 2 or 5, else stall."
 unfoldable pub dnload : Board → ℕ → List ℕ → Result
 dnload b n d =
     if ltb mostData n then stall b else
     if eqb n 0 then endDownload b else
-    if among (b .session .state) (2 ∷ 5 ∷ []) then obeyForm b (form d) d else
+    if among (b .session .state) commandStates then obeyForm b (form d) d else
     stall b
 
 -- ---- UPLOAD
@@ -179,10 +185,13 @@ send b n p =
     reply (b .config) Done (take n (pendingBytes b p))
     (if ltb n (pendingCount p) then session 9 0x00 (pendingAfter n p) else session 2 0x00 Nothing)
 
+abbrev pub uploadStates : List ℕ
+uploadStates = 5 ∷ 9 ∷ []
+
 -- "UPLOAD in 5 or 9, wLength over 0, something pending that can be sent: .. Otherwise stall."
 unfoldable pub upload : Board → ℕ → Result
 upload b n =
-    if among (b .session .state) (5 ∷ 9 ∷ []) && ltb 0 n && sendable (b .session .pending) (level (b .config))
+    if among (b .session .state) uploadStates && ltb 0 n && sendable (b .session .pending) (level (b .config))
     then send b n (b .session .pending) else
     stall b
 

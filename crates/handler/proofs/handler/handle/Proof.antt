@@ -1,4 +1,4 @@
--- `loader::handle` meets its contract: a walk of its code, by hand. The session's borrow is opened and the session copied; `step` is
+-- `handler::handle` meets its contract: a walk of its code, by hand. The session's borrow is opened and the session copied; `step` is
 -- called with the copy and with the three lent slices, at their own lifetimes, shares and names; the answer's session is stored,
 -- and the borrow is closed at it. All that the proof knows of `step` is that it meets its contract.
 -- Assumes nothing.
@@ -53,14 +53,14 @@ use Rattle.board.proofs.config.Config as K
 use Rattle.board.proofs.config.Config.Laws as K′
 use Rattle.rules.proofs.answer.Answer as N
 use Rattle.rules.proofs.answer.Answer.Laws as N′
 use Rattle.loader.proofs.respond.step as step
 use Rattle.loader.proofs.respond.step.Symbol as step-def
 use Rattle.loader.proofs.respond.step.Symbol.{name as #step}
 use Rattle.loader.proofs.respond.step.Met as step-thm
-use Rattle.loader.proofs.interrupt.handle.Key.{name as #handle}
-use Rattle.loader.proofs.interrupt.handle as handle
-use Rattle.loader.proofs.interrupt.handle.Statement as stated
-use Rattle.loader.proofs.interrupt.handle.Code as code
+use Rattle.handler.proofs.handler.handle.Key.{name as #handle}
+use Rattle.handler.proofs.handler.handle as handle
+use Rattle.handler.proofs.handler.handle.Statement as stated
+use Rattle.handler.proofs.handler.handle.Code as code
 
 abbrev byte : Slot 6
 byte = plain (λ _. u8)

@@ -3,8 +3,8 @@ ghost use lib.ListN.{length};
 ghost use Rattle.rules.specs.Result.{board as boardOf};
 ghost use Rattle.rules.specs.Step.{ask};
 ghost use Rattle.rules.specs.Answered.{Handled};
-use crate::respond::step;
 use board::Config;
+use loader::step;
 use rules::Answer;
 use rules::Session;
 
@@ -18,7 +18,9 @@ pub fn handle(
     eeprom: &mut [u8],
     reply: &mut [u8],
 ) -> Answer
-    ensures { λ r. ⌜ Handled (boardOf (now (session .entry)) config (now (flash .entry)) (now (eeprom .entry))) (ask (boardOf (now (session .entry)) config (now (flash .entry)) (now (eeprom .entry))) (now (setup .entry)) (now (sent .entry)) (length (now (reply .entry)))) r (now (session .exit)) (now (flash .exit)) (now (eeprom .exit)) (now (reply .exit)) (now (reply .entry)) ⌝ }
+    ensures { λ r. let b = boardOf (now (session .entry)) config (now (flash .entry)) (now (eeprom .entry)) in
+        ⌜ Handled b (ask b (now (setup .entry)) (now (sent .entry)) (length (now (reply .entry))))
+        r (now (session .exit)) (now (flash .exit)) (now (eeprom .exit)) (now (reply .exit)) (now (reply .entry)) ⌝ }
 {
     let answer = step(*session, config, setup, sent, flash, eeprom, reply);
     *session = answer.session;
