@@ -1,16 +1,36 @@
 -- `loader::respond::respond` meets its contract: each arm is one request.
 -- Assumes nothing.
+use mathlib.Core.Path.{subst}
+use mathlib.Core.List.{List}
+use Prim.Native.Nat.{ℕ}
+use Rattle.board.specs.declared.config.Config.{Config}
+use Rattle.rules.specs.declared.session.Session.{Session}
+use Rattle.rules.specs.declared.answer.Answer.{Answer}
+use Rattle.rules.specs.declared.request.Request.the-variants.{Dnload}
+use Rattle.rules.specs.Result.{board}
+use Rattle.rules.specs.Requests.{respond}
+use Rattle.rules.specs.Answered.{Answered, Stepped, Sizes}
 use Rattle.rules.proofs.StepLaws.{by-dnload, by-upload, by-getStatus, by-getState, by-clrStatus, by-abort, by-stall}
+use Rattle.downloads.specs.Download.{downloaded}
+use Rattle.downloads.proofs.DownloadLaws.{downloaded-sized}
 use borrow.Author.Needs.{needs}
 use Rattle.loader.proofs.respond.respond.Statement.{statement}
 use Rattle.loader.proofs.respond.respond.Tie as tie
+
+-- memories that passed the refusals have their sizes
+downloads : (s : Session) (c : Config) (f e d p : List ℕ) (n : ℕ) {a : Answer} {f′ e′ : List ℕ} → Sizes f e
+    → Answered (board s c f e) (downloaded (board s c f e) n d) a f′ e′
+    → Stepped (board s c f e) (respond (board s c f e) (Dnload n) d) a f′ e′ p p
+downloads s c f e d p n {a} {f′} {e′} h q =
+    by-dnload s c f e d p n (subst (λ x. Answered (board s c f e) x a f′ e′) (downloaded-sized (board s c f e) n d h) q)
 
 returns : tie.Need-returns
 returns c =
     let back = c .before .before .before .before in
     let a = back .before .before .before .before .before .before .before .before .before .before .args in
+    let sizes = back .before .before .before .before .before .before .before .before .before .before .pre .0 .sizes in
     rw (back .before .before .before .before .request .given .1)
-    (by-dnload (a .session) (a .config) (a .flash .now) (a .eeprom .now) (a .sent .now) (a .reply .now) _ (back .dnload .ensures))
+    (downloads (a .session) (a .config) (a .flash .now) (a .eeprom .now) (a .sent .now) (a .reply .now) _ sizes (back .dnload .ensures))
 
 returns-2 : tie.Need-returns-2
 returns-2 c =
