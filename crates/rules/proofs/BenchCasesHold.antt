@@ -113,19 +113,19 @@ upload-report c f e hf he u =
 case-9 : Finds L2 0x1234 (0x12 ∷ 0x34 ∷ [])
 unfolding form obey perform
 case-9 = record {
-  finds = λ b r f u.
+  finds = λ b r f u v w.
       let c : Config = b .config in
       let report : Session = session 3 0x05 (BlankReport (flashAddress 0x1234)) in
       let found : usedIn 0 lastFlash (b .flash) ≡ some 0x1234 = usedIn-whole (b .flash) lastFlash 0x1234 (r .flash-size) (lit≤ tt) (f .before) (f .there) in
       let e1 : step b (checkAll u) ≡ accept (BlankCheck (flashAddress 0) (flashAddress lastFlash)) (blankEffect c (some 0x1234)) =
       commanded r u (0x03 ∷ 0x01 ∷ 0x00 ∷ 0x00 ∷ 0x7F ∷ 0xFF ∷ []) (lit< tt) (lit≤ tt)
       ∙ ap (λ o. accept (BlankCheck (flashAddress 0) (flashAddress lastFlash)) (blankEffect c o)) found in
-      let e2 : step (board report c (b .flash) (b .eeprom)) (askStatus u) ≡ getStatus (board report c (b .flash) (b .eeprom)) =
-      statusOf report c (b .flash) (b .eeprom) (r .flash-size) (r .eeprom-size) refl refl u in
-      let e3 = upload-report c (b .flash) (b .eeprom) (r .flash-size) (r .eeprom-size) u in (
+      let e2 : step (board report c (b .flash) (b .eeprom)) (askStatus v) ≡ getStatus (board report c (b .flash) (b .eeprom)) =
+      statusOf report c (b .flash) (b .eeprom) (r .flash-size) (r .eeprom-size) refl refl v in
+      let e3 = upload-report c (b .flash) (b .eeprom) (r .flash-size) (r .eeprom-size) w in (
         ap line e1,
-        ap (λ x. lastSent (next b x) (askStatus u ∷ askUpload u 2 ∷ [])) e1
-            ∙ ap (λ x. lastSent (next (board report c (b .flash) (b .eeprom)) x) (askUpload u 2 ∷ [])) e2
+        ap (λ x. lastSent (next b x) (askStatus v ∷ askUpload w 2 ∷ [])) e1
+            ∙ ap (λ x. lastSent (next (board report c (b .flash) (b .eeprom)) x) (askUpload w 2 ∷ [])) e2
             ∙ ap (λ x. x .sent) e3,
       );
 }

@@ -1,13 +1,14 @@
 -- The statements of specs/Effects.antt hold.
 -- Assumes nothing.
 use mathlib.Core.Path.{_≡_, refl, sym, ap, _∙_, subst}
-use mathlib.Core.Bool.{Bool, true, false, not, false≢true}
+use mathlib.Core.Bool.{Bool, true, false, not, false≢true, true≢false}
 use mathlib.Core.List.{List, [], _∷_}
 use mathlib.Core.Option.{Option, none, some}
-use Prim.Native.Nat.{ℕ}
+use Prim.Native.Nat.{ℕ, _≤_, _<_}
 use native.Mathlib.Omega.{arith}
 use lib.Dec.{eqb, ltb}
-use borrow.Author.Tests.{ne-eqb, le-ltb}
+use borrow.Author.Tests.{ne-eqb, le-ltb, eqb-false, ltb-false}
+use lib.ListN.{length}
 use Rattle.board.specs.Memory.{flashPages}
 use Rattle.words.specs.Words.{if_then_else_, among}
 use Rattle.board.specs.Blank.{usedIn}
@@ -28,14 +29,17 @@ use Rattle.command.specs.declared.command.Command.the-variants.{Program, Read, 
 use Rattle.command.proofs.AddressLaws.{Good, badRange-good}
 use Rattle.command.proofs.TransferLaws.{length-bodyOf}
 use Rattle.command.proofs.ReaderLaws.{passed, taken}
+use Rattle.command.proofs.RoundTripHolds.{writes-back}
 use Rattle.rules.specs.Result.{Board, Result, Stall, Refused}
+use Rattle.rules.specs.Session.{idle}
 use Rattle.rules.specs.Levels.{levelStatus}
 use Rattle.rules.specs.Commands.{stall, setStatus, perform, accept, blankEffect, forbidden, obey, obeyForm}
 use Rattle.rules.specs.Requests.{requestOf, Request, Dnload, Upload, GetStatus, GetState, ClrStatus, Abort, Other, mostData, respond, dnload, endPlain, endDownload, upload}
 use Rattle.rules.specs.Refusals.{refusal}
 use Rattle.rules.specs.Step.{Ask, PowerUp, ask, powerUp, step}
-use Rattle.rules.specs.Effects.{Leaves, Effects, MovesNothing, RefusalsMoveNothing, RefusalsGiven, AcceptedRightly, AcceptedOnly, Commands, AcceptedAlways, NotAcceptedSaid, StatusStays, AnsweredIsRead}
-use Rattle.rules.proofs.Ready.{commanded}
+use Rattle.rules.specs.Effects.{Leaves, Effects, MovesNothing, RefusalsMoveNothing, RefusalsGiven, AcceptedRightly, AcceptedOnly, Commands, AcceptedAlways, NotAcceptedSaid, StatusStays, WrittenBack, AnsweredIsWrittenBack, Awake}
+use Rattle.rules.specs.BenchCases.{Ready, Unnamed, download}
+use Rattle.rules.proofs.Ready.{commanded, not-commanded, stateOf}
 use Rattle.rules.proofs.Shape.{Passed, Shape, refused, still, did, shape, isRefused}
 
 -- an answer that changes neither memory nor configuration
@@ -102,7 +106,7 @@ effects b PowerUp = leaves-still b [] (powerUp b) refl refl refl refl
 moves-nothing : (b : Board) (number k : ℕ) (d : List ℕ) (r : Result) → Shape b number d r → r .outcome ≡ Refused k → MovesNothing b k number r
 moves-nothing b number k d r (refused q) e =
     let o : Refused number ≡ Refused k = sym (ap (λ x. x .outcome) q) ∙ e in
-    record { its-number = cc; nothing-sent = rw q; no-pages = rw q; board-stays = rw q }
+    record { its-number = cc; nothing-sent = rw q; no-pages = rw q; board-stays = rw q; reply-stays = λ p. rw q }
 moves-nothing b number k d r (still o bs s z q) e =
     let w : true ≡ false = ap isRefused (sym e ∙ ap (λ x. x .outcome) q) ∙ z in
     absurd (let n : _≡_ {A = ℕ} 0 1 = cc in omega arith)
@@ -256,7 +260,26 @@ read-form b d (some k) f l s v =
     let p = answered b k d l (forbidden b k) (badAddress k) (badLength k d) refl refl refl s v in
     (k, taken d k (record { formed = f; address-right = p .0; length-right = p .1 }))
 
-pub answered-is-read : AnsweredIsRead
+answered-is-read : (b : Board) → Ready L0 b → (u : Unnamed) (d : List ℕ) → 0 < length d → length d ≤ mostData
+    → (step b (download u d) .outcome ≡ Stall → ⊥) → (step b (download u d) .session .status ≡ 0x08 → ⊥)
+    → (k : Command) × (readCommand d ≡ Taken k (partsOf k d))
 answered-is-read b r u d h m s v =
     let e = commanded r u d h m in
     read-form b d (form d) refl (r .at-level) (λ q. s (ap (λ x. x .outcome) e ∙ q)) (λ q. v (ap (λ x. x .session .status) e ∙ q))
+
+pub answered-is-written-back : AnsweredIsWrittenBack
+unfolding stall
+answered-is-written-back b r u p each s v = go (ltb mostData (length p)) (eqb (length p) 0) refl refl
+  where
+    go : (t w : Bool) → ltb mostData (length p) ≡ t → eqb (length p) 0 ≡ w → WrittenBack p
+    go true w e f = absurd (s (ap (λ x. x .outcome) (not-commanded r u p true w e f (λ q z. true≢false q))))
+    go false true e f = absurd (s (ap (λ x. x .outcome) (not-commanded r u p false true e f (λ q z. true≢false z))))
+    go false false e f =
+        let k = answered-is-read b r u p (omega (arith, eqb-false (length p) 0 f)) (ltb-false mostData (length p) e) s v in
+        record { command = k .0; read = k .1; written = λ z room h. writes-back p (k .0) each (k .1) z room h }
+
+-- ---- power-up
+
+pub awake : Awake
+unfolding step
+awake b h u = ap (λ x. x .sent) (stateOf idle (b .config) (b .flash) (b .eeprom) (h .flash-size) (h .eeprom-size) refl refl u)

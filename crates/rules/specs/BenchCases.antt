@@ -32,12 +32,15 @@ pub record Unnamed : Type 0 where
   pub room : ℕ
   pub enough : replySize ≤ room
 
--- DNLOAD of these bytes, GETSTATUS, and UPLOAD of n bytes
+-- DNLOAD of these bytes, GETSTATUS, GETSTATE, and UPLOAD of n bytes
 abbrev pub download : Unnamed → List ℕ → Event
 download u d = Ask (0x21 ∷ 1 ∷ u .low ∷ u .high ∷ 0 ∷ 0 ∷ length d % 256 ∷ length d / 256 ∷ []) d (u .room)
 
 abbrev pub askStatus : Unnamed → Event
 askStatus u = Ask (0xA1 ∷ 3 ∷ 0 ∷ 0 ∷ 0 ∷ 0 ∷ 6 ∷ 0 ∷ []) [] (u .room)
+
+abbrev pub askState : Unnamed → Event
+askState u = Ask (0xA1 ∷ 5 ∷ 0 ∷ 0 ∷ 0 ∷ 0 ∷ 1 ∷ 0 ∷ []) [] (u .room)
 
 abbrev pub askUpload : Unnamed → ℕ → Event
 askUpload u n = Ask (0xA1 ∷ 2 ∷ u .low ∷ u .high ∷ 0 ∷ 0 ∷ n % 256 ∷ n / 256 ∷ []) [] (u .room)
@@ -103,8 +106,8 @@ checkAll u = download u (0x03 ∷ 0x01 ∷ 0x00 ∷ 0x00 ∷ 0x7F ∷ 0xFF ∷ [
 
 -- a board at level l, first byte not FFh at x: 05h, then after GETSTATUS the upload o
 pub record Finds (l : Level) (x : ℕ) (o : List ℕ) : Type 0 where
-  pub finds : (b : Board) → Ready l b → FirstUsedAt (b .flash) x → (u : Unnamed)
-      → (line (step b (checkAll u)) ≡ notBlank x) × (lastSent b (checkAll u ∷ askStatus u ∷ askUpload u 2 ∷ []) ≡ o)
+  pub finds : (b : Board) → Ready l b → FirstUsedAt (b .flash) x → (u v w : Unnamed)
+      → (line (step b (checkAll u)) ≡ notBlank x) × (lastSent b (checkAll u ∷ askStatus v ∷ askUpload w 2 ∷ []) ≡ o)
 
 -- "BSB FFh, SBV FCh, SSB FFh; .. the other bytes stay"
 pub record ErasedConfig (before after : Config) : Type 0 where

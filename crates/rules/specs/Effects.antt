@@ -18,14 +18,16 @@ use Rattle.board.specs.declared.level.Level.the-variants.{L0}
 use Rattle.command.specs.Transfer.{bodyOf}
 use Rattle.command.specs.Reader.{partsOf, readCommand}
 use Rattle.command.specs.declared.reader.Reading.the-variants.{Taken}
+use Rattle.command.specs.RoundTrip.{Bytes, ZeroFilled, WritesAs}
 use Rattle.command.specs.declared.command.Command.{Command}
 use Rattle.command.specs.declared.command.Command.the-variants.{Program, Read, BlankCheck, EraseBlock, EraseChip, WriteByte, WriteHsb, StartReset, StartAt, ReadVersion, ReadByte, ReadHsb}
 use Rattle.rules.specs.Levels.{levelStatus}
-use Rattle.rules.specs.Result.{Board, Result, next, pages, Done, Stall, Refused}
+use Rattle.rules.specs.Result.{Board, Result, next, pages, replyAfter, Done, Stall, Refused}
 use Rattle.rules.specs.Requests.{requestOf, Dnload, ClrStatus, mostData}
 use Rattle.rules.specs.Refusals.{refusal}
-use Rattle.rules.specs.BenchCases.{Ready, Unnamed, download}
-use Rattle.rules.specs.Step.{Event, Ask, PowerUp, ask, step}
+use Rattle.rules.specs.Answered.{Sizes}
+use Rattle.rules.specs.BenchCases.{Ready, Unnamed, download, askState}
+use Rattle.rules.specs.Step.{Event, Ask, PowerUp, ask, step, lastSent}
 
 -- "for programming flash, the pages that the range meets; 64, 64, 128, 256 for the erases; else 0. .. at most 9 for a program
 -- transfer."
@@ -120,6 +122,7 @@ pub record MovesNothing (b : Board) (k number : ℕ) (r : Result) : Type 0 where
   pub nothing-sent : r .sent ≡ []
   pub no-pages : pages r ≡ 0
   pub board-stays : next b r ≡ b
+  pub reply-stays : (p : List ℕ) → replyAfter r p ≡ p
 
 abbrev pub RefusalsMoveNothing : Type 0
 RefusalsMoveNothing = (b : Board) (setup d : List ℕ) (n k : ℕ)
@@ -169,11 +172,21 @@ abbrev pub StatusStays : Type 0
 StatusStays = (b : Board) (setup d : List ℕ) (n : ℕ) → b .session .state ≡ 10 → (requestOf setup ≡ ClrStatus → ⊥)
     → (ask b setup d n .session .state ≡ 10) × (ask b setup d n .session .status ≡ b .session .status)
 
--- ---- the reader and the board
+-- ---- the board and the writer
 
--- "A payload that a level 0 board in state 2 answers without stall or 08h": the reader takes it (an SSB value that gets 03h too),
--- so that what crates/command says of such a payload holds of this one
-abbrev pub AnsweredIsRead : Type 0
-AnsweredIsRead = (b : Board) → Ready L0 b → (u : Unnamed) (d : List ℕ) → 0 < length d → length d ≤ mostData
-    → (step b (download u d) .outcome ≡ Stall → ⊥) → (step b (download u d) .session .status ≡ 0x08 → ⊥)
-    → (k : Command) × (readCommand d ≡ Taken k (partsOf k d))
+-- "A payload that a level 0 board in state 2 answers without stall or 08h, with zero filler and pad, is written back byte for byte.":
+-- it is read as a command, and the writer, handed what was read, writes the payload
+pub record WrittenBack (p : List ℕ) : Type 0 where
+  pub command : Command
+  pub read : readCommand p ≡ Taken command (partsOf command p)
+  pub written : ZeroFilled command p → (room : List ℕ) → length p ≤ length room → WritesAs p command room
+
+abbrev pub AnsweredIsWrittenBack : Type 0
+AnsweredIsWrittenBack = (b : Board) → Ready L0 b → (u : Unnamed) (p : List ℕ) → Bytes p
+    → (step b (download u p) .outcome ≡ Stall → ⊥) → (step b (download u p) .session .status ≡ 0x08 → ⊥) → WrittenBack p
+
+-- ---- power-up
+
+-- "GETSTATE after power-up is 02": on every board whose memories have their sizes, of any session and configuration
+abbrev pub Awake : Type 0
+Awake = (b : Board) → Sizes (b .flash) (b .eeprom) → (u : Unnamed) → lastSent b (PowerUp ∷ askState u ∷ []) ≡ 0x02 ∷ []
