@@ -34,12 +34,14 @@ use Rattle.rules.specs.Commands.{stall, perform, obey, obeyForm, accept,
 use Rattle.rules.specs.Requests.{mostData, requestOf, respond, upload, send, getStatus}
 use Rattle.rules.specs.Refusals.{refusal, replySize}
 use Rattle.rules.specs.Step.{step, ask, lastSent}
-use Rattle.rules.specs.BenchCases.{Ready, Unnamed, download, askStatus, askUpload, Moved, line, taken, Answers, programHead, transfer, Programs, checkAll, Finds, Erases, WritesHsb, BenchCases}
+use Rattle.rules.specs.BenchCases.{Ready, Unnamed, download, askStatus, askUpload, Moved, line, taken, Answers, programHead, transfer, Programs}
+use Rattle.rules.specs.BenchCases.{checkAll, Finds, Erases, WritesHsb, BenchCases}
 use Rattle.rules.proofs.Ready.{commanded, statusOf}
 
 -- a case that names the first bytes of the data and the answer
 answers-by : {l : Level} {head : List ℕ} {least most : ℕ} {o : Moved} → T (ltb 0 least) → T (leb most mostData)
-    → ((b : Board) → Ready l b → (rest : List ℕ) → least ≤ length (head ++ rest) → length (head ++ rest) ≤ most → obeyForm b (form (head ++ rest)) (head ++ rest) ≡ reply (b .config) (o .outcome) [] (o .session))
+    → ((b : Board) → Ready l b → (rest : List ℕ) → least ≤ length (head ++ rest) → length (head ++ rest) ≤ most
+    → obeyForm b (form (head ++ rest)) (head ++ rest) ≡ reply (b .config) (o .outcome) [] (o .session))
     → Answers l head least most o
 answers-by {l} {head} {least} {most} {o} p q f = record {
   answers = λ b r u rest h k.
@@ -81,7 +83,8 @@ module _ (a e : ℕ) (filler pad new suffix : List ℕ) (hf : length filler ≡ 
       let we : e / 256 * 256 + e % 256 ≡ e = omega arith in
       rw (le-leb 6 (length (transfer a e filler pad new suffix)) six, wa, we)
 
-programs-by : (a e n k : ℕ) → a ≤ e → e < flashSize → count a e ≤ mostBytes → n ≡ transferLength (Flash (flashAddress a) (flashAddress e)) → k ≡ pagesMet a e → Programs a e n k
+programs-by : (a e n k : ℕ) → a ≤ e → e < flashSize → count a e ≤ mostBytes → n ≡ transferLength (Flash (flashAddress a) (flashAddress e))
+    → k ≡ pagesMet a e → Programs a e n k
 programs-by a e n k forward inside short hn hk = record {
   programs = λ b r u filler pad new suffix lf ln ls lt.
       let range : Range = Flash (flashAddress a) (flashAddress e) in

@@ -19,7 +19,8 @@ use Rattle.command.specs.Transfer.{badLength}
 use Rattle.command.specs.declared.form.Form.{Form}
 use Rattle.command.specs.declared.form.Form.the-variants.{Is, Unlisted}
 use Rattle.command.specs.declared.command.Command.{Command}
-use Rattle.command.specs.declared.command.Command.the-variants.{Program, Read, BlankCheck, EraseBlock, EraseChip, WriteByte, WriteHsb, StartReset, StartAt, ReadVersion, ReadByte, ReadHsb}
+use Rattle.command.specs.declared.command.Command.the-variants.{Program, Read, BlankCheck, EraseBlock, EraseChip, WriteByte, WriteHsb, StartReset}
+use Rattle.command.specs.declared.command.Command.the-variants.{StartAt, ReadVersion, ReadByte, ReadHsb}
 use Rattle.rules.specs.Session.{Session, session, idle, Nothing, Start, StartKind}
 use Rattle.rules.specs.Levels.{levelStatus}
 use Rattle.rules.specs.Result.{board, reply, Answer, answer, Outcome, Done, Stall, Started}
@@ -68,7 +69,8 @@ module _ (s : Session) (c : Config) (f e : List ℕ) where
   either false false o o′ t u v h = record { answered = h; flash = refl; eeprom = refl }
 
   module _ (k : Command) (d : List ℕ) (status : ℕ) (told : status ≡ levelStatus k (level c)) where
-    pub forbidden : {a : Answer} → (status ≡ 0 → ⊥) → a ≡ answer (reply c Done [] (session 10 status Nothing)) → Answered (board s c f e) (obey (board s c f e) k d) a f e
+    pub forbidden : {a : Answer} → (status ≡ 0 → ⊥) → a ≡ answer (reply c Done [] (session 10 status Nothing))
+        → Answered (board s c f e) (obey (board s c f e) k d) a f e
     unfolding obey
     forbidden h q =
         let t : eqb (levelStatus k (level c)) 0 ≡ false = ne-eqb _ 0 (λ z. h (told ∙ z)) in
@@ -78,11 +80,13 @@ module _ (s : Session) (c : Config) (f e : List ℕ) where
       yes-level : eqb (levelStatus k (level c)) 0 ≡ true
       yes-level = eq-eqb _ 0 (sym told ∙ allowed)
 
-      pub wrong-address : {a : Answer} → badAddress k ≡ true → a ≡ answer (reply c Done [] (session 10 0x08 Nothing)) → Answered (board s c f e) (obey (board s c f e) k d) a f e
+      pub wrong-address : {a : Answer} → badAddress k ≡ true → a ≡ answer (reply c Done [] (session 10 0x08 Nothing))
+          → Answered (board s c f e) (obey (board s c f e) k d) a f e
       unfolding obey
       wrong-address b q = rw (yes-level, b) (record { answered = q; flash = refl; eeprom = refl })
 
-      pub wrong-whole : {a : Answer} → badAddress k ≡ false → badLength k d ≡ true → a ≡ answer (stall (bare s c)) → Answered (board s c f e) (obey (board s c f e) k d) a f e
+      pub wrong-whole : {a : Answer} → badAddress k ≡ false → badLength k d ≡ true → a ≡ answer (stall (bare s c))
+          → Answered (board s c f e) (obey (board s c f e) k d) a f e
       unfolding obey
       wrong-whole b w q = rw (yes-level, b, w) (stalled q)
 

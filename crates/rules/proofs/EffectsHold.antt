@@ -16,16 +16,20 @@ use Rattle.board.specs.Level.{level}
 use Rattle.board.specs.declared.address.Range.{Range}
 use Rattle.board.specs.declared.address.Range.the-variants.{Flash, Eeprom}
 use Rattle.board.specs.declared.level.Level.the-variants.{L0}
+use Rattle.board.specs.declared.address.Block.{Block}
+use Rattle.board.specs.Pages.{blockStores}
 use Rattle.board.specs.declared.address.Block.the-variants.{Low, Middle, High}
 use Rattle.words.proofs.WordsLaws.{overlay-programmed}
-use Rattle.board.proofs.PagesLaws.{programStores-programmed, blockStores-programmed, storeAll-chipStores, length-programStores, length-blockStores, length-chipStores, pagesMet-le}
+use Rattle.board.proofs.PagesLaws.{programStores-programmed, blockStores-programmed, storeAll-chipStores, length-programStores, length-blockStores}
+use Rattle.board.proofs.PagesLaws.{length-chipStores, pagesMet-le}
 use Rattle.command.specs.Form.{form}
 use Rattle.command.specs.Address.{badAddress}
 use Rattle.command.specs.Transfer.{bodyOf, badLength}
 use Rattle.command.specs.Reader.{partsOf, readCommand}
 use Rattle.command.specs.declared.reader.Reading.the-variants.{Taken}
 use Rattle.command.specs.declared.command.Command.{Command}
-use Rattle.command.specs.declared.command.Command.the-variants.{Program, Read, BlankCheck, EraseBlock, EraseChip, WriteByte, WriteHsb, StartReset, StartAt, ReadVersion, ReadByte, ReadHsb}
+use Rattle.command.specs.declared.command.Command.the-variants.{Program, Read, BlankCheck, EraseBlock, EraseChip, WriteByte, WriteHsb, StartReset}
+use Rattle.command.specs.declared.command.Command.the-variants.{StartAt, ReadVersion, ReadByte, ReadHsb}
 use Rattle.command.proofs.AddressLaws.{Good, badRange-good}
 use Rattle.command.proofs.TransferLaws.{length-bodyOf}
 use Rattle.command.proofs.ReaderLaws.{passed, taken}
@@ -34,10 +38,12 @@ use Rattle.rules.specs.Result.{Board, Result, Stall, Refused}
 use Rattle.rules.specs.Session.{idle}
 use Rattle.rules.specs.Levels.{levelStatus}
 use Rattle.rules.specs.Commands.{stall, setStatus, perform, accept, blankEffect, forbidden, obey, obeyForm}
-use Rattle.rules.specs.Requests.{requestOf, Request, Dnload, Upload, GetStatus, GetState, ClrStatus, Abort, Other, mostData, respond, dnload, endPlain, endDownload, upload}
+use Rattle.rules.specs.Requests.{requestOf, Request, Dnload, Upload, GetStatus, GetState, ClrStatus, Abort, Other, mostData, respond, dnload}
+use Rattle.rules.specs.Requests.{endPlain, endDownload, upload}
 use Rattle.rules.specs.Refusals.{refusal}
 use Rattle.rules.specs.Step.{Ask, PowerUp, ask, powerUp, step}
-use Rattle.rules.specs.Effects.{Leaves, Effects, MovesNothing, RefusalsMoveNothing, RefusalsGiven, AcceptedRightly, AcceptedOnly, Commands, AcceptedAlways, NotAcceptedSaid, StatusStays, WrittenBack, AnsweredIsWrittenBack, Awake}
+use Rattle.rules.specs.Effects.{PagesOf, Leaves, Effects, MovesNothing, RefusalsMoveNothing, RefusalsGiven, AcceptedRightly, AcceptedOnly, Commands}
+use Rattle.rules.specs.Effects.{AcceptedAlways, NotAcceptedSaid, StatusStays, WrittenBack, AnsweredIsWrittenBack, Awake}
 use Rattle.rules.specs.BenchCases.{Ready, Unnamed, download}
 use Rattle.rules.proofs.Ready.{commanded, not-commanded, stateOf}
 use Rattle.rules.proofs.Shape.{Passed, Shape, refused, still, did, shape, isRefused}
@@ -71,18 +77,20 @@ leaves-program b (Eeprom a e) d p =
       page-count = refl;
     }
 
+pages-block : (k : Block) (f : List ℕ) → PagesOf (some (EraseBlock k)) (length (blockStores k f))
+pages-block Low f = length-blockStores Low f
+pages-block Middle f = length-blockStores Middle f
+pages-block High f = length-blockStores High f
+
 leaves-did : (b : Board) (k : Command) (d : List ℕ) → Passed b k d → Leaves b d (accept k (perform b k d))
 unfolding perform
 leaves-did b (Program r) d p = leaves-program b r d p
 leaves-did b (Read r) d p = record { flash = refl; eeprom = refl; config = refl; page-count = refl }
 leaves-did b (BlankCheck a e) d p = leaves-blank b a e d (usedIn (a .0) (e .0) (b .flash))
-leaves-did b (EraseBlock Low) d p = record
-    { flash = blockStores-programmed Low (b .flash) (p .flash-size); eeprom = refl; config = refl; page-count = length-blockStores Low (b .flash) }
-leaves-did b (EraseBlock Middle) d p = record
-    { flash = blockStores-programmed Middle (b .flash) (p .flash-size); eeprom = refl; config = refl; page-count = length-blockStores Middle (b .flash) }
-leaves-did b (EraseBlock High) d p = record
-    { flash = blockStores-programmed High (b .flash) (p .flash-size); eeprom = refl; config = refl; page-count = length-blockStores High (b .flash) }
-leaves-did b EraseChip d p = record { flash = storeAll-chipStores (b .flash) (p .flash-size); eeprom = refl; config = refl; page-count = length-chipStores }
+leaves-did b (EraseBlock k) d p =
+    record { flash = blockStores-programmed k (b .flash) (p .flash-size); eeprom = refl; config = refl; page-count = pages-block k (b .flash) }
+leaves-did b EraseChip d p =
+    record { flash = storeAll-chipStores (b .flash) (p .flash-size); eeprom = refl; config = refl; page-count = length-chipStores }
 leaves-did b (WriteByte i v) d p = record { flash = refl; eeprom = refl; config = refl; page-count = refl }
 leaves-did b (WriteHsb v) d p = record { flash = refl; eeprom = refl; config = refl; page-count = refl }
 leaves-did b StartReset d p = record { flash = refl; eeprom = refl; config = refl; page-count = refl }
@@ -93,7 +101,8 @@ leaves-did b ReadHsb d p = record { flash = refl; eeprom = refl; config = refl; 
 
 leaves : (b : Board) (k : ℕ) (d : List ℕ) (r : Result) → Shape b k d r → Leaves b d r
 leaves b k d r (refused q) = leaves-still b d r (ap (λ x. x .stored) q) (ap (λ x. x .patched) q) (ap (λ x. x .config) q) (ap (λ x. x .accepted) q)
-leaves b k d r (still o bs s z q) = leaves-still b d r (ap (λ x. x .stored) q) (ap (λ x. x .patched) q) (ap (λ x. x .config) q) (ap (λ x. x .accepted) q)
+leaves b k d r (still o bs s z q) = leaves-still b d r (ap (λ x. x .stored) q) (ap (λ x. x .patched) q) (ap (λ x. x .config) q)
+    (ap (λ x. x .accepted) q)
 leaves b k d r (did c p q) = subst (λ x. Leaves b d x) (sym q) (leaves-did b c d p)
 
 pub effects : Effects

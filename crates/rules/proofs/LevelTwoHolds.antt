@@ -27,11 +27,13 @@ use Rattle.board.proofs.PagesLaws.{storeAll-chipStores}
 use Rattle.board.proofs.BlankLaws.{marks, usedIn-same, usedIn-one}
 use Rattle.command.specs.Form.{form}
 use Rattle.command.specs.declared.command.Command.{Command}
-use Rattle.command.specs.declared.command.Command.the-variants.{Program, Read, BlankCheck, EraseBlock, EraseChip, WriteByte, WriteHsb, StartReset, StartAt, ReadVersion, ReadByte, ReadHsb}
+use Rattle.command.specs.declared.command.Command.the-variants.{Program, Read, BlankCheck, EraseBlock, EraseChip, WriteByte, WriteHsb, StartReset}
+use Rattle.command.specs.declared.command.Command.the-variants.{StartAt, ReadVersion, ReadByte, ReadHsb}
 use Rattle.rules.specs.Session.{Session, session, idle, Pending, Nothing, MemoryRead, BlankReport, OneByte, Start}
 use Rattle.rules.specs.Result.{Board, board, Result, reply, next, Outcome}
 use Rattle.rules.specs.Commands.{stall, perform, accept, blankEffect, obey, obeyForm}
-use Rattle.rules.specs.Requests.{Request, Dnload, Upload, GetStatus, GetState, ClrStatus, Abort, Other, requestOf, dnload, endPlain, endDownload, upload, send, respond}
+use Rattle.rules.specs.Requests.{Request, Dnload, Upload, GetStatus, GetState, ClrStatus, Abort, Other, requestOf, dnload, endPlain}
+use Rattle.rules.specs.Requests.{endDownload, upload, send, respond}
 use Rattle.rules.specs.Refusals.{refusal}
 use Rattle.rules.specs.Step.{Event, Ask, PowerUp, ask, step, Report, reports, lastSent}
 use Rattle.rules.specs.BenchCases.{Ready, Unnamed, download, askStatus}
@@ -104,7 +106,8 @@ data Kept (f : List ℕ) (r : Result) : Type 0 where
   quiet : r .stored ≡ [] → r .patched ≡ [] → level (r .config) ≡ L2 → isChipErase (r .accepted) ≡ false → Kept f r
   wiped : r .stored ≡ chipStores → r .patched ≡ [] → length f ≡ flashSize → isChipErase (r .accepted) ≡ true → Kept f r
 
-kept-blank : (b : Board) (a z : FlashAddress) → level (b .config) ≡ L2 → (o : Option ℕ) → Kept (b .flash) (accept (BlankCheck a z) (blankEffect (b .config) o))
+kept-blank : (b : Board) (a z : FlashAddress) → level (b .config) ≡ L2 → (o : Option ℕ)
+    → Kept (b .flash) (accept (BlankCheck a z) (blankEffect (b .config) o))
 kept-blank b a z lv none = quiet refl refl lv refl
 kept-blank b a z lv (some x) = quiet refl refl lv refl
 
@@ -130,7 +133,8 @@ kept-did b lv ReadVersion d p = quiet refl refl lv refl
 kept-did b lv (ReadByte i) d p = quiet refl refl lv refl
 kept-did b lv ReadHsb d p = quiet refl refl lv refl
 
-kept-reply : (b : Board) → level (b .config) ≡ L2 → (r : Result) (o : Outcome) (bs : List ℕ) (s : Session) → r ≡ reply (b .config) o bs s → Kept (b .flash) r
+kept-reply : (b : Board) → level (b .config) ≡ L2 → (r : Result) (o : Outcome) (bs : List ℕ) (s : Session) → r ≡ reply (b .config) o bs s
+    → Kept (b .flash) r
 kept-reply b lv r o bs s q = subst (λ x. Kept (b .flash) x) (sym q) (quiet refl refl lv refl)
 
 kept-shape : (b : Board) → level (b .config) ≡ L2 → (k : ℕ) (d : List ℕ) (r : Result) → Shape b k d r → Kept (b .flash) r
@@ -146,7 +150,8 @@ kept b lv PowerUp = quiet refl refl lv refl
 -- ---- runs
 
 -- the board after a request that moves no memory, and after a full chip erase
-next-quiet : (s : Session) (c : Config) (f e : List ℕ) (r : Result) → r .stored ≡ [] → r .patched ≡ [] → next (board s c f e) r ≡ board (r .session) (r .config) f e
+next-quiet : (s : Session) (c : Config) (f e : List ℕ) (r : Result) → r .stored ≡ [] → r .patched ≡ []
+    → next (board s c f e) r ≡ board (r .session) (r .config) f e
 next-quiet s c f e r p q = rw (p, q)
 
 next-wiped : (s : Session) (c : Config) (f e : List ℕ) (r : Result) → r .stored ≡ chipStores → r .patched ≡ [] → length f ≡ flashSize
@@ -211,13 +216,15 @@ same-marks f f′ l h =
 pub kept-secret : KeptSecret
 unfolding cut
 kept-secret b b′ a vs =
-    cut-same (b .flash) (b′ .flash) (b .eeprom) (b′ .eeprom) (a .same-flash-size) (a .same-eeprom-size) (same-marks (b .flash) (b′ .flash) (a .same-flash-size) (a .same-blank)) vs (b .session) (b .config) (a .at-level-2)
+    let marks = same-marks (b .flash) (b′ .flash) (a .same-flash-size) (a .same-blank) in
+    cut-same (b .flash) (b′ .flash) (b .eeprom) (b′ .eeprom) (a .same-flash-size) (a .same-eeprom-size) marks vs (b .session) (b .config) (a .at-level-2)
     ∙ ap (λ s. cut (board s (b .config) (b′ .flash) (b′ .eeprom)) vs) (a .same-session)
     ∙ ap (λ c. cut (board (b′ .session) c (b′ .flash) (b′ .eeprom)) vs) (a .same-config)
 
 pub kept-secret-ever : KeptSecretEver
 kept-secret-ever b b′ a q vs =
-    ever-same (b .flash) (b′ .flash) (b .eeprom) (a .same-flash-size) (same-marks (b .flash) (b′ .flash) (a .same-flash-size) (a .same-blank)) vs (b .session) (b .config) (a .at-level-2)
+    let marks = same-marks (b .flash) (b′ .flash) (a .same-flash-size) (a .same-blank) in
+    ever-same (b .flash) (b′ .flash) (b .eeprom) (a .same-flash-size) marks vs (b .session) (b .config) (a .at-level-2)
     ∙ ap (λ s. reports (board s (b .config) (b′ .flash) (b .eeprom)) vs) (a .same-session)
     ∙ ap (λ c. reports (board (b′ .session) c (b′ .flash) (b .eeprom)) vs) (a .same-config)
     ∙ ap (λ e. reports (board (b′ .session) (b′ .config) (b′ .flash) e) vs) q
@@ -244,7 +251,8 @@ module _ (s : Session) (c : Config) (f e : List ℕ) (hf : length f ≡ flashSiz
   check : List ℕ
   check = 0x03 ∷ 0x01 ∷ x / 256 ∷ x % 256 ∷ x / 256 ∷ x % 256 ∷ []
 
-  settled : (t : Bool) → next (board idle c f e) (accept (BlankCheck (flashAddress x) (flashAddress x)) (blankEffect c (if t then none else some x))) ≡ board (checked t) c f e
+  settled : (t : Bool)
+      → next (board idle c f e) (accept (BlankCheck (flashAddress x) (flashAddress x)) (blankEffect c (if t then none else some x))) ≡ board (checked t) c f e
   unfolding checked
   settled true = refl
   settled false = refl

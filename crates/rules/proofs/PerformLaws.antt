@@ -1,6 +1,7 @@
 -- What the board's operations do to memories of their sizes is what `perform` says.
 -- Assumes nothing.
 use mathlib.Core.Path.{_≡_, refl, ap, _∙_}
+use mathlib.Core.Bool.{true}
 use mathlib.Core.List.{List, []}
 use mathlib.Core.Option.{Option, none, some}
 use Prim.Native.Nat.{ℕ, _+_, _-_, _≤_}
@@ -8,17 +9,16 @@ use native.Mathlib.Omega.{arith}
 use lib.ListN.{length, take, drop}
 use borrow.Author.Tests.{eq-eqb, eqb-true, not-false}
 use Rattle.words.specs.Words.{overlay}
-use Rattle.board.specs.Memory.{flashSize, eepromSize, rangeCount}
+use Rattle.board.specs.Memory.{flashSize, rangeStart, rangeEnd, rangeCount, memorySize}
+use Rattle.board.specs.Read.{selected}
 use Rattle.board.specs.Pages.{storeAll, programStores, blockStores, chipStores}
-use Rattle.board.specs.Program.{flashStores, eepromAfter, programmedPages, programmedFlash, programmedEeprom}
+use Rattle.board.specs.Program.{programmable, flashStores, eepromAfter, programmedPages, programmedFlash, programmedEeprom}
 use Rattle.board.specs.Erase.{blockErase, chipErase}
 use Rattle.board.specs.declared.address.Block.{Block}
-use Rattle.board.specs.declared.address.FlashAddress.{FlashAddress}
-use Rattle.board.specs.declared.address.EepromAddress.{EepromAddress}
 use Rattle.board.specs.declared.address.Range.{Range}
 use Rattle.board.specs.declared.address.Range.the-variants.{Flash, Eeprom}
 use Rattle.board.specs.declared.config.Config.{Config}
-use Rattle.board.proofs.ProgramLaws.{Fit, fit}
+use Rattle.board.proofs.ProgramLaws.{fit}
 use Rattle.command.specs.Transfer.{bodyPlace, bodyOf, transferLength}
 use Rattle.command.specs.declared.command.Command.the-variants.{Program}
 use Rattle.command.proofs.AddressLaws.{Good, badRange-good}
@@ -26,7 +26,7 @@ use Rattle.command.proofs.TransferLaws.{length-bodyOf}
 use Rattle.rules.specs.Session.{idle, Nothing}
 use Rattle.rules.specs.Result.{Answer, board}
 use Rattle.rules.specs.Commands.{blankEffect, perform, accept}
-use Rattle.rules.specs.Answered.{Answered, Acceptable, acceptedAnswer}
+use Rattle.rules.specs.Answered.{Answered, Sizes, Acceptable, acceptedAnswer}
 
 -- a blank check stores nothing
 pub blank-stored : (c : Config) (o : Option ℕ) → blankEffect c o .stored ≡ []
@@ -46,26 +46,22 @@ pub chipErase-sized : (f : List ℕ) → length f ≡ flashSize → chipErase f 
 unfolding chipErase
 chipErase-sized f h = rw (eq-eqb (length f) flashSize h)
 
+-- the memory that a range selects has its size
+pub selected-sized : (r : Range) (f m : List ℕ) → Sizes f m → length (selected r f m) ≡ memorySize r
+selected-sized (Flash a e) f m s = s .flash-size
+selected-sized (Eeprom a e) f m s = s .eeprom-size
+
 -- a range that the reader let through can be programmed
-flash-fit : (a e : FlashAddress) (d f m : List ℕ) → Acceptable (Program (Flash a e)) d f m → Fit flashSize (a .0) (e .0) (bodyOf (Flash a e) d) f
-flash-fit a e d f m p =
-    let g : Good (Flash a e) = badRange-good (Flash a e) (p .address-right) in
-    record { right-size = p .sizes .flash-size; forward = g .forward; inside = g .inside; right-count = length-bodyOf (Flash a e) d (p .length-right) }
-
-eeprom-fit : (a e : EepromAddress) (d f m : List ℕ) → Acceptable (Program (Eeprom a e)) d f m → Fit eepromSize (a .0) (e .0) (bodyOf (Eeprom a e) d) m
-eeprom-fit a e d f m p =
-    let g : Good (Eeprom a e) = badRange-good (Eeprom a e) (p .address-right) in
-    record { right-size = p .sizes .eeprom-size; forward = g .forward; inside = g .inside; right-count = length-bodyOf (Eeprom a e) d (p .length-right) }
-
-flashStores-fit : (a e : FlashAddress) (d f m : List ℕ) → Acceptable (Program (Flash a e)) d f m
-    → flashStores a e (bodyOf (Flash a e) d) f ≡ programStores (a .0) (e .0) (bodyOf (Flash a e) d) f
-unfolding flashStores
-flashStores-fit a e d f m p = rw (fit flashSize (a .0) (e .0) (bodyOf (Flash a e) d) f (flash-fit a e d f m p))
-
-eepromAfter-fit : (a e : EepromAddress) (d f m : List ℕ) → Acceptable (Program (Eeprom a e)) d f m
-    → eepromAfter a e (bodyOf (Eeprom a e) d) m ≡ overlay (a .0) (bodyOf (Eeprom a e) d) m
-unfolding eepromAfter
-eepromAfter-fit a e d f m p = rw (fit eepromSize (a .0) (e .0) (bodyOf (Eeprom a e) d) m (eeprom-fit a e d f m p))
+acceptable-programmable : (r : Range) (d f m : List ℕ) → Acceptable (Program r) d f m
+    → programmable (memorySize r) (rangeStart r) (rangeEnd r) (bodyOf r d) (selected r f m) ≡ true
+acceptable-programmable r d f m p =
+    let g : Good r = badRange-good r (p .address-right) in
+    fit (memorySize r) (rangeStart r) (rangeEnd r) (bodyOf r d) (selected r f m) (record {
+      right-size = selected-sized r f m (p .sizes);
+      forward = g .forward;
+      inside = g .inside;
+      right-count = length-bodyOf r d (p .length-right);
+    })
 
 -- the bytes of a transfer, from where its body begins to where its suffix does
 pub body-piece : (r : Range) (d : List ℕ) (place bytes : ℕ) → place ≡ bodyPlace r → bytes ≡ rangeCount r
@@ -74,7 +70,8 @@ body-piece r d place bytes p q =
     let n : place + bytes - place ≡ bytes = omega arith in
     rw (n, q, p)
 
-pub body-inside : (r : Range) (d f m : List ℕ) (place bytes : ℕ) → Acceptable (Program r) d f m → place ≡ bodyPlace r → bytes ≡ rangeCount r → place + bytes ≤ length d
+pub body-inside : (r : Range) (d f m : List ℕ) (place bytes : ℕ) → Acceptable (Program r) d f m → place ≡ bodyPlace r → bytes ≡ rangeCount r
+    → place + bytes ≤ length d
 body-inside r d f m place bytes a p q =
     let total : length d ≡ transferLength r = eqb-true _ _ (not-false _ (a .length-right)) in
     omega arith
@@ -83,9 +80,11 @@ body-inside r d f m place bytes a p q =
 pub programs : (r : Range) (c : Config) (d f m piece f′ m′ : List ℕ) (n : ℕ) (a : Answer) → Acceptable (Program r) d f m → piece ≡ bodyOf r d
     → n ≡ programmedPages r piece f → f′ ≡ programmedFlash r piece f → m′ ≡ programmedEeprom r piece m → a ≡ acceptedAnswer c 0x00 Nothing n
     → Answered (board idle c f m) (accept (Program r) (perform (board idle c f m) (Program r) d)) a f′ m′
-unfolding perform
+unfolding perform flashStores eepromAfter
 programs (Flash a e) c d f m piece f′ m′ n x p q qn qf qm qa =
-    let s = ap (λ y. flashStores a e y f) q ∙ flashStores-fit a e d f m p in
+    let s : flashStores a e piece f ≡ programStores (a .0) (e .0) (bodyOf (Flash a e) d) f =
+    rw (q, acceptable-programmable (Flash a e) d f m p) in
     record { answered = qa ∙ ap (acceptedAnswer c 0x00 Nothing) (qn ∙ ap length s); flash = qf ∙ ap (λ y. storeAll y f) s; eeprom = qm }
 programs (Eeprom a e) c d f m piece f′ m′ n x p q qn qf qm qa =
-    record { answered = qa ∙ ap (acceptedAnswer c 0x00 Nothing) qn; flash = qf; eeprom = qm ∙ ap (λ y. eepromAfter a e y m) q ∙ eepromAfter-fit a e d f m p }
+    let s : eepromAfter a e piece m ≡ overlay (a .0) (bodyOf (Eeprom a e) d) m = rw (q, acceptable-programmable (Eeprom a e) d f m p) in
+    record { answered = qa ∙ ap (acceptedAnswer c 0x00 Nothing) qn; flash = qf; eeprom = qm ∙ s }

@@ -20,7 +20,8 @@ use Rattle.rules.specs.Session.{Session, Pending, Nothing, MemoryRead, B
 use Rattle.rules.specs.Levels.{levelStatus}
 use Rattle.rules.specs.Result.{Board, Result, reply, Outcome, Done, Stall, Started, Refused}
 use Rattle.rules.specs.Commands.{stall, perform, accept, forbidden, obey, obeyForm}
-use Rattle.rules.specs.Requests.{Request, Dnload, Upload, GetStatus, GetState, ClrStatus, Abort, Other, requestOf, startPending, startOf, endPlain, endDownload, mostData, dnload, sendable, send, upload, respond}
+use Rattle.rules.specs.Requests.{Request, Dnload, Upload, GetStatus, GetState, ClrStatus, Abort, Other, requestOf, startPending, startOf}
+use Rattle.rules.specs.Requests.{endPlain, endDownload, mostData, dnload, sendable, send, upload, respond}
 use Rattle.rules.specs.Refusals.{refusal}
 use Rattle.rules.specs.Step.{ask}
 use Rattle.rules.proofs.StepLaws.{unrefused}
@@ -70,7 +71,14 @@ module _ (b : Board) (number : ℕ) (d : List ℕ) (hf : length (b .flash) ≡ f
       pick (forbidden b k) (λ x. still _ _ _ refl refl) (λ x.
       pick (badAddress k) (λ y. still _ _ _ refl refl) (λ y.
       pick (badLength k d) (λ z. of-stall) (λ z.
-      did k (record { formed = f; flash-size = hf; eeprom-size = he; level-right = eqb-true _ 0x00 (not-false _ x); address-right = y; length-right = z }) refl)))
+      did k (record {
+        formed = f;
+        flash-size = hf;
+        eeprom-size = he;
+        level-right = eqb-true _ 0x00 (not-false _ x);
+        address-right = y;
+        length-right = z;
+      }) refl)))
 
   of-form : (o : Option Command) → form d ≡ o → Shape b number d (obeyForm b o d)
   of-form none f = of-stall

@@ -22,7 +22,8 @@ use Rattle.command.proofs.AddressLaws.{or-false}
 use Rattle.rules.specs.Session.{Session}
 use Rattle.rules.specs.Result.{Board, board, Result, reply, Answer, answer, Refused}
 use Rattle.rules.specs.Commands.{stall, forbidden, obey, obeyForm}
-use Rattle.rules.specs.Requests.{Request, Dnload, Upload, GetStatus, GetState, ClrStatus, Abort, Other, requestOf, startPending, endPlain, endDownload, mostData, dnload, sendable, send, upload, getStatus, getState, clrStatus, abort, clearIn, respond}
+use Rattle.rules.specs.Requests.{Request, Dnload, Upload, GetStatus, GetState, ClrStatus, Abort, Other, requestOf, startPending, endPlain}
+use Rattle.rules.specs.Requests.{endDownload, mostData, dnload, sendable, send, upload, getStatus, getState, clrStatus, abort, clearIn, respond}
 use Rattle.rules.specs.Refusals.{knownState, badPending, badSession, badData, replySize, refusal}
 use Rattle.rules.specs.Step.{ask}
 use Rattle.rules.specs.Answered.{bare, Answered, Replied, Stepped}
@@ -49,7 +50,8 @@ pub unrefused : (b : Board) (setup d : List ℕ) (n : ℕ) → refusal b setup d
 unfolding refusal
 unrefused b setup d n q =
     let s : Session = b .session in
-    let h = passed (eqb (length setup) 8) (eqb (length (b .flash)) flashSize) (eqb (length (b .eeprom)) eepromSize) (badData setup d) (ltb n replySize) (badSession s) _ q in
+    let h = passed (eqb (length setup) 8) (eqb (length (b .flash)) flashSize) (eqb (length (b .eeprom)) eepromSize) (badData setup d)
+    (ltb n replySize) (badSession s) _ q in
     record {
       flash-size = eqb-true _ flashSize (h .0);
       eeprom-size = eqb-true _ eepromSize (h .1);

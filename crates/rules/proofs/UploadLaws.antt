@@ -26,6 +26,7 @@ use Rattle.rules.specs.Commands.{stall}
 use Rattle.rules.specs.Requests.{sendable, rangeContent, pendingBytes, pendingCount, restOf, pendingAfter, send, upload}
 use Rattle.rules.specs.Answered.{bare, Replied, Sizes, Sendable, Splits, firstOf, sendPending, sentAnswer}
 use Rattle.rules.proofs.StatusLaws.{reply-laid}
+use Rattle.rules.proofs.PerformLaws.{selected-sized}
 
 -- the reply of a send, from its bytes and their count k
 module _ (b : Board) (n : ℕ) (q : Pending) (k : ℕ) (p p′ : List ℕ) (told : k ≡ length (take n (pendingBytes b q)))
@@ -70,7 +71,8 @@ module _ (b : Board) (q : Pending) (a e n k : ℕ) (m p p′ : List ℕ) (bytes 
       more-remains b n q k p p′ (rw bytes (j ∙ how-many a e x n n m p u asked v w those))
       (rw bytes (g ∙ over-front a e x n n m p u asked v w those)) (rw all (lt-ltb n (count a e) l)) h
 
-  whole-part : {z : Answer} → count a e ≤ n → k ≡ copied a e m p → p′ ≡ bufferAfter a e m p → z ≡ sentAnswer (b .config) 2 Nothing k → Replied (send b n q) z p′ p
+  whole-part : {z : Answer} → count a e ≤ n → k ≡ copied a e m p → p′ ≡ bufferAfter a e m p → z ≡ sentAnswer (b .config) 2 Nothing k
+      → Replied (send b n q) z p′ p
   whole-part l j g h =
       let c : ℕ = count a e in
       let len : length (part a e m) ≡ c = length-take-le c (drop a m) (simp length-drop (omega arith)) in
@@ -87,8 +89,7 @@ module _ (c : Config) (f e p : List ℕ) (n k : ℕ) (p′ : List ℕ) where
   bytes-of (Eeprom x y) = refl
 
   inside-of : (r : Range) → Sizes f e → rangeEnd r < memorySize r → rangeEnd r < length (selected r f e)
-  inside-of (Flash x y) s h = let z = s .flash-size in omega arith
-  inside-of (Eeprom x y) s h = let z = s .eeprom-size in omega arith
+  inside-of r s h = let z = selected-sized r f e s in omega arith
 
   first-count : (r : Range) → readCount (firstOf n r) f e p ≡ copied (rangeStart r) (rangeStart r + (n - 1)) (selected r f e) p
   first-count (Flash x y) = refl

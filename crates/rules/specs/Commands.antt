@@ -16,7 +16,8 @@ use Rattle.board.specs.declared.config.Config.{Config}
 use Rattle.command.specs.Address.{badAddress}
 use Rattle.command.specs.Transfer.{bodyOf, badLength}
 use Rattle.command.specs.declared.command.Command.{Command}
-use Rattle.command.specs.declared.command.Command.the-variants.{Program, Read, BlankCheck, EraseBlock, EraseChip, WriteByte, WriteHsb, StartReset, StartAt, ReadVersion, ReadByte, ReadHsb}
+use Rattle.command.specs.declared.command.Command.the-variants.{Program, Read, BlankCheck, EraseBlock, EraseChip, WriteByte, WriteHsb, StartReset}
+use Rattle.command.specs.declared.command.Command.the-variants.{StartAt, ReadVersion, ReadByte, ReadHsb}
 use Rattle.rules.specs.Session.{session, Pending, Nothing, MemoryRead, BlankReport, OneByte, Start, Reset, AtAddress}
 use Rattle.rules.specs.Levels.{levelStatus}
 use Rattle.rules.specs.Result.{Board, Patch, Result, reply, Done, Stall}
@@ -81,8 +82,15 @@ perform b ReadHsb d = leaves (b .config) (OneByte (b .config .hsb))
 
 -- "An accepted command sets status 00h, state 3 and what is pending"
 abbrev pub accept : Command → Effect → Result
-accept k x = record
-    { outcome = Done; sent = []; session = session 3 (x .status) (x .pending); config = x .config; stored = x .stored; patched = x .patched; accepted = some k }
+accept k x = record {
+  outcome = Done;
+  sent = [];
+  session = session 3 (x .status) (x .pending);
+  config = x .config;
+  stored = x .stored;
+  patched = x .patched;
+  accepted = some k;
+}
 
 -- ---- the order
 

@@ -20,7 +20,8 @@ use Rattle.command.specs.Reader.{partsOf, readCommand}
 use Rattle.command.specs.declared.reader.Reading.the-variants.{Taken}
 use Rattle.command.specs.RoundTrip.{Bytes, ZeroFilled, WritesAs}
 use Rattle.command.specs.declared.command.Command.{Command}
-use Rattle.command.specs.declared.command.Command.the-variants.{Program, Read, BlankCheck, EraseBlock, EraseChip, WriteByte, WriteHsb, StartReset, StartAt, ReadVersion, ReadByte, ReadHsb}
+use Rattle.command.specs.declared.command.Command.the-variants.{Program, Read, BlankCheck, EraseBlock, EraseChip, WriteByte, WriteHsb, StartReset}
+use Rattle.command.specs.declared.command.Command.the-variants.{StartAt, ReadVersion, ReadByte, ReadHsb}
 use Rattle.rules.specs.Levels.{levelStatus}
 use Rattle.rules.specs.Result.{Board, Result, next, pages, replyAfter, Done, Stall, Refused}
 use Rattle.rules.specs.Requests.{requestOf, Dnload, ClrStatus, mostData}

@@ -13,7 +13,8 @@ use Rattle.board.specs.Memory.{flashSize}
 use Rattle.board.specs.Level.{level}
 use Rattle.board.specs.declared.level.Level.the-variants.{L2}
 use Rattle.command.specs.declared.command.Command.{Command}
-use Rattle.command.specs.declared.command.Command.the-variants.{Program, Read, BlankCheck, EraseBlock, EraseChip, WriteByte, WriteHsb, StartReset, StartAt, ReadVersion, ReadByte, ReadHsb}
+use Rattle.command.specs.declared.command.Command.the-variants.{Program, Read, BlankCheck, EraseBlock, EraseChip, WriteByte, WriteHsb, StartReset}
+use Rattle.command.specs.declared.command.Command.the-variants.{StartAt, ReadVersion, ReadByte, ReadHsb}
 use Rattle.rules.specs.Result.{Board, next}
 use Rattle.rules.specs.Step.{Event, PowerUp, step, reports, lastSent}
 use Rattle.rules.specs.Answered.{Sizes}

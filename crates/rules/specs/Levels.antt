@@ -7,7 +7,8 @@ use Rattle.board.specs.Config.{ssbIndex}
 use Rattle.board.specs.declared.level.Level.{Level}
 use Rattle.board.specs.declared.level.Level.the-variants.{L0, L1, L2}
 use Rattle.command.specs.declared.command.Command.{Command}
-use Rattle.command.specs.declared.command.Command.the-variants.{Program, Read, BlankCheck, EraseBlock, EraseChip, WriteByte, WriteHsb, StartReset, StartAt, ReadVersion, ReadByte, ReadHsb}
+use Rattle.command.specs.declared.command.Command.the-variants.{Program, Read, BlankCheck, EraseBlock, EraseChip, WriteByte, WriteHsb, StartReset}
+use Rattle.command.specs.declared.command.Command.the-variants.{StartAt, ReadVersion, ReadByte, ReadHsb}
 
 -- "program flash or EEPROM, block erase, write HSB"; "read flash or EEPROM, read HSB"; "write SSB", with its value; the last row
 pub data Row : Type 0 where

@@ -1,17 +1,31 @@
 -- What a request gives, as data: the answer, and what it does to the board. Assumes nothing: these are definitions.
 use mathlib.Core.List.{List, [], _∷_, _++_}
 use mathlib.Core.Option.{Option, none}
-use Prim.Native.Nat.{ℕ}
+use Prim.Native.Nat.{ℕ, _+_}
 use lib.ListN.{length, drop}
 use Rattle.words.specs.Words.{overlay}
 use Rattle.board.specs.Pages.{Store, storeAll}
 use Rattle.board.specs.declared.address.EepromAddress.{EepromAddress}
 use Rattle.board.specs.declared.config.Config.{Config}
 use Rattle.command.specs.declared.command.Command.{Command}
-use Rattle.rules.specs.Session.{Session}
+use Rattle.rules.specs.Session.{Session, startNumber}
 pub use Rattle.rules.specs.declared.answer.Outcome.{Outcome}
 pub use Rattle.rules.specs.declared.answer.Outcome.the-variants.{Done, Stall, Started, Refused}
 pub use Rattle.rules.specs.declared.answer.Answer.{Answer}
+
+-- an outcome's number and value: 0 done, 1 stall, 2 a start by reset and 3 at an address, each with its address, 4 a refusal with
+-- "the paper's number"
+abbrev pub outcomeNumber : Outcome → ℕ
+outcomeNumber Done = 0
+outcomeNumber Stall = 1
+outcomeNumber (Started k a) = 2 + startNumber k
+outcomeNumber (Refused n) = 4
+
+abbrev pub outcomeValue : Outcome → ℕ
+outcomeValue Done = 0
+outcomeValue Stall = 0
+outcomeValue (Started k a) = a .0
+outcomeValue (Refused n) = n
 
 -- the board: session, configuration and the two memories
 pub record Board : Type 0 where

@@ -13,3 +13,8 @@ session state status p = record { state = state; status = status; pending = p }
 -- "state 2, status 00h, nothing pending": after power-up, CLRSTATUS and ABORT
 abbrev pub idle : Session
 idle = session 2 0x00 Nothing
+
+-- "start by reset, or at address": 04h, 03h, 00h and 04h, 03h, 01h
+abbrev pub startNumber : StartKind → ℕ
+startNumber Reset = 0x00
+startNumber AtAddress = 0x01
