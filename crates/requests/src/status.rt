@@ -49,10 +49,11 @@ fn cleared(config: Config) -> Answer
 pub fn clr_status(session: Session, config: Config) -> Answer
     ensures { λ r. ⌜ r ≡ answer (clrStatus (bare session config)) ⌝ }
 {
-    if session.state == 10 {
-        return cleared(config);
+    let state = session.state;
+    match state {
+        10 => cleared(config),
+        _ => stall(session, config),
     }
-    stall(session, config)
 }
 
 // Back to state 2 from 2, 3, 5, 6 and 9.

@@ -1,13 +1,16 @@
 -- `downloads::perform::program` meets its contract: the body of the transfer is programmed.
 -- Assumes nothing.
+use native.Mathlib.Omega.{arith}
 use Rattle.rules.proofs.PerformLaws.{body-piece, body-inside, programs}
 use borrow.Author.Needs.{needs}
 use Rattle.downloads.proofs.perform.program.Statement.{statement}
 use Rattle.downloads.proofs.perform.program.Tie as tie
 
 part-program-end : tie.Need-part-program-end
-part-program-end c = body-inside _ _ _ _ _ _ (c .before .before .before .before .before .pre) (c .before .body-place .ensures)
-    (c .range-count .ensures .0)
+part-program-end c =
+    let acceptable = c .before .before .before .before .before .pre in
+    let inside = body-inside _ _ _ _ _ _ acceptable (c .before .body-place .ensures) (c .range-count .ensures .0) in
+    omega arith
 
 returns : tie.Need-returns
 returns c =
