@@ -12,8 +12,9 @@ use lib.Seq.{take-append-le, take-take, length-take-le, take-add, take-at}
 use borrow.Author.Tests.{le-leb}
 use Rattle.words.specs.Words.{count, overlay, Programmed}
 use Rattle.board.specs.Memory.{Page, page, pageSize, flashSize, flashPages, blankFlash}
-use Rattle.board.specs.Pages.{Block, Low, Middle, High, store, storeAll, pageStore, pageOf, pagesFrom, firstPage, pagesMet, programStores, blockStart, blockEnd, blockFF, blockStores, chipStores}
-use Rattle.words.proofs.WordsLaws.{drop-past, length-front, length-overlay, overlay-part, overlay-programmed}
+use Rattle.board.specs.Pages.{store, storeAll, pageStore, pageOf, pagesFrom, firstPage, pagesMet, programStores}
+use Rattle.board.specs.Pages.{Block, Low, Middle, High, blockStart, blockEnd, blockFF, blockStores, chipStores}
+use Rattle.words.proofs.WordsLaws.{drop-past, length-front, length-overlay, overlay-part, overlay-programmed, overlay-append, overlay-none}
 
 -- ---- the list of stores
 
@@ -61,6 +62,58 @@ module _ (p : Page) (at : ℕ) (d m : List ℕ) (within : at + length d ≤ page
   storeAll-pageStore =
       rw (le-leb (at + length d) pageSize within, le-leb (pageSize * p .0 + pageSize) (length m) there)
       (overlay-part (pageSize * p .0) pageSize at d m within there)
+
+-- ---- whole pages stored one after another
+
+-- so many of the first `count` pages of the bytes d stand in m, which is m₀ with them from page `first` on
+pub record Stored (first count : ℕ) (d m₀ m : List ℕ) (pages : ℕ) : Type 0 where
+  pub up-to-count : pages ≤ count
+  pub same-size : length m ≡ length m₀
+  pub laid-so-far : m ≡ overlay (pageSize * first) (take (pageSize * pages) d) m₀
+
+pub stored-none : (first count : ℕ) (d m₀ : List ℕ) → Stored first count d m₀ m₀ 0
+stored-none first count d m₀ =
+    record { up-to-count = omega arith; same-size = refl; laid-so-far = sym (overlay-none (pageSize * first) m₀) }
+
+-- the page after those, with its bytes x
+module _ (first count : ℕ) (d m₀ m : List ℕ) (pages : ℕ) (s : Stored first count d m₀ m pages) (more : pages < count)
+    (fits : pageSize * (first + count) ≤ length m₀) (enough : pageSize * count ≤ length d) (p : Page) (x : List ℕ)
+    (next : p .0 ≡ first + pages) (its : x ≡ pageOf pages d) where
+  length-its : length x ≡ pageSize
+  length-its = ap length its ∙ length-pageOf pages d (omega arith)
+
+  within : 0 + length x ≤ pageSize
+  within = omega (arith, length-its)
+
+  there : pageSize * p .0 + pageSize ≤ length m
+  there = omega (arith, s .same-size)
+
+  laid-further : overlay (pageSize * p .0 + 0) x m ≡ overlay (pageSize * first) (take (pageSize * (pages + 1)) d) m₀
+  laid-further =
+      let so-far : List ℕ = take (pageSize * pages) d in
+      let l : length so-far ≡ pageSize * pages = length-take-le (pageSize * pages) d (omega arith) in
+      let place : pageSize * p .0 + 0 ≡ pageSize * first + length so-far = omega arith in
+      let total : pageSize * pages + pageSize ≡ pageSize * (pages + 1) = omega arith in
+      ap (λ k. overlay k x m) place
+      ∙ ap (overlay (pageSize * first + length so-far) x) (s .laid-so-far)
+      ∙ overlay-append (pageSize * first) so-far x m₀ (omega (arith, length-its))
+      ∙ ap (λ y. overlay (pageSize * first) (so-far ++ y) m₀) its
+      ∙ ap (λ y. overlay (pageSize * first) y m₀) (sym (take-add (pageSize * pages) pageSize d) ∙ ap (λ k. take k d) total)
+
+  pub stored-more : (m′ : List ℕ) (r : ℕ) → r ≡ length (pageStore p 0 x m) → m′ ≡ storeAll (pageStore p 0 x m) m
+      → (r ≡ 1) × Stored first count d m₀ m′ (pages + r)
+  stored-more m′ r qr qm =
+      let one : r ≡ 1 = qr ∙ length-pageStore p 0 x m within there in
+      let laid : m′ ≡ overlay (pageSize * first) (take (pageSize * (pages + 1)) d) m₀ = qm ∙ storeAll-pageStore p 0 x m within there ∙ laid-further in
+      let l : length (take (pageSize * (pages + 1)) d) ≡ pageSize * (pages + 1) = length-take-le (pageSize * (pages + 1)) d (omega arith) in
+      let size : length m′ ≡ length m₀ = ap length laid ∙ length-overlay (pageSize * first) (take (pageSize * (pages + 1)) d) m₀ (omega arith) in
+      (one, rw one (record { up-to-count = omega arith; same-size = size; laid-so-far = laid }))
+
+pub stored-all : (first count : ℕ) (d m₀ m : List ℕ) (pages : ℕ) → Stored first count d m₀ m pages → count ≤ pages
+    → (pages ≡ count) × (m ≡ overlay (pageSize * first) (take (pageSize * count) d) m₀)
+stored-all first count d m₀ m pages s h =
+    let all : pages ≡ count = omega (arith, s .up-to-count) in
+    (all, s .laid-so-far ∙ ap (λ n. overlay (pageSize * first) (take (pageSize * n) d) m₀) all)
 
 -- ---- what the stores of a range leave
 

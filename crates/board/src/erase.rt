@@ -9,18 +9,19 @@ use crate::FLASH_SIZE;
 use crate::PAGE_SIZE;
 use crate::address::Block;
 use crate::address::Page;
-use crate::page::store_page;
+use crate::page::page_after;
+use crate::page::store_whole;
 
 // Stores pages of FFh, so many from a first one on, and answers how many those are.
-fn erase_pages(flash: &mut [u8], first: usize, count: usize) -> usize
-    requires { ⌜ (128 * (first + count) ≤ length (now flash)) × (length (now flash) ≤ 65536) ⌝ }
+fn erase_pages(flash: &mut [u8], first: Page, count: usize) -> usize
+    requires { ⌜ (128 * (first .0 + count) ≤ length (now flash)) × (length (now flash) ≤ 65536) ⌝ }
     ensures { λ r. ⌜ r ≡ count ⌝ }
-    ensures { λ r. ⌜ now (flash .exit) ≡ overlay (128 * first) (replicate (128 * count) 0xFF) (now (flash .entry)) ⌝ }
+    ensures { λ r. ⌜ now (flash .exit) ≡ overlay (128 * (first .0)) (replicate (128 * count) 0xFF) (now (flash .entry)) ⌝ }
 {
     let blank = [0xFFu8; PAGE_SIZE];
     let mut pages = 0;
     while pages < count {
-        pages += store_page(flash, Page((first + pages) as u16), 0, &blank);
+        pages += store_whole(flash, page_after(first, pages), &blank, 0);
     }
     pages
 }
@@ -35,9 +36,9 @@ pub fn erase_block(flash: &mut [u8], block: Block) -> usize
         return 0;
     }
     match block {
-        Block::Low => erase_pages(flash, 0, 64),
-        Block::Middle => erase_pages(flash, 64, 64),
-        Block::High => erase_pages(flash, 128, 128),
+        Block::Low => erase_pages(flash, Page(0), 64),
+        Block::Middle => erase_pages(flash, Page(64), 64),
+        Block::High => erase_pages(flash, Page(128), 128),
     }
 }
 
@@ -50,5 +51,5 @@ pub fn erase_chip(flash: &mut [u8]) -> usize
     if flash.len() != FLASH_SIZE {
         return 0;
     }
-    erase_pages(flash, 0, 256)
+    erase_pages(flash, Page(0), 256)
 }

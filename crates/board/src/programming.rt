@@ -1,7 +1,7 @@
 // Programming a range of one of the two memories.
 ghost use mathlib.Core.Path.{_≡_};
-ghost use Prim.Native.Nat.{_+_, _-_, _%_, _≤_, _<_};
-ghost use lib.ListN.{length};
+ghost use Prim.Native.Nat.{_+_, _-_, _*_, _%_, _≤_, _<_, min};
+ghost use lib.ListN.{length, take, drop};
 ghost use Rattle.words.specs.Words.{overlay};
 ghost use Rattle.board.specs.Pages.{storeAll, pagesMet};
 ghost use Rattle.board.specs.Program.{flashStores, eepromAfter, programmedPages, programmedFlash, programmedEeprom};
@@ -12,26 +12,64 @@ use crate::address::EepromAddress;
 use crate::address::FlashAddress;
 use crate::address::Page;
 use crate::address::Range;
+use crate::page::page_after;
 use crate::page::store_page;
+use crate::page::store_whole;
 
-// Stores each page that the bytes meet, from an index of the flash on, and answers how many those are.
-fn program_pages(flash: &mut [u8], start: usize, bytes: &[u8]) -> usize
-    requires { ⌜ (0 < length (now bytes)) × (start + length (now bytes) ≤ length (now flash)) × (length (now flash) % 128 ≡ 0) × (length (now flash) ≤ 65536) ⌝ }
-    ensures { λ r. ⌜ r ≡ pagesMet start (start + length (now (bytes .entry)) - 1) ⌝ }
-    ensures { λ r. ⌜ now (flash .exit) ≡ overlay start (now (bytes .entry)) (now (flash .entry)) ⌝ }
+// Stores a part of a page, and answers how many pages were stored: 1, or 0 where there are no bytes.
+fn store_part(flash: &mut [u8], page: Page, at: usize, bytes: &[u8]) -> usize
+    requires { ⌜ (at + length (now bytes) ≤ 128) × (128 * (page .0) + (at + length (now bytes)) ≤ length (now flash)) × (length (now flash) % 128 ≡ 0) ⌝ }
+    ensures { λ r. ⌜ r ≡ min 1 (length (now (bytes .entry))) ⌝ }
+    ensures { λ r. ⌜ now (flash .exit) ≡ overlay (128 * (page .0) + at) (now (bytes .entry)) (now (flash .entry)) ⌝ }
 {
-    let end = start + bytes.len();
-    let mut at = start;
+    if bytes.len() == 0 {
+        return 0;
+    }
+    store_page(flash, page, at, bytes)
+}
+
+// Stores whole pages, so many from a first one on, with the bytes from an index of theirs on, and answers how many pages those are.
+fn store_pages(flash: &mut [u8], first: Page, count: usize, bytes: &[u8], from: usize) -> usize
+    requires { ⌜ (128 * (first .0 + count) ≤ length (now flash)) × (length (now flash) ≤ 65536) × (from + 128 * count ≤ length (now bytes)) ⌝ }
+    ensures { λ r. ⌜ r ≡ count ⌝ }
+    ensures { λ r. ⌜ now (flash .exit) ≡ overlay (128 * (first .0)) (take (128 * count) (drop from (now (bytes .entry)))) (now (flash .entry)) ⌝ }
+{
     let mut pages = 0;
-    while at < end {
-        let page = at / PAGE_SIZE;
-        let next = words::least(PAGE_SIZE * page + PAGE_SIZE, end);
-        let from = at - start;
-        let to = next - start;
-        pages += store_page(flash, Page(page as u16), at % PAGE_SIZE, &bytes[from..to]);
-        at = next;
+    while pages < count {
+        pages += store_whole(
+            flash,
+            page_after(first, pages),
+            bytes,
+            from + PAGE_SIZE * pages,
+        );
     }
     pages
+}
+
+// Stores each page that the bytes meet, from an address on, and answers how many those are: a part of the first page, whole pages
+// and a part of the last. Each of the three has its own loop or none, so that the compiler knows how long a whole page is.
+fn program_pages(flash: &mut [u8], start: FlashAddress, bytes: &[u8]) -> usize
+    requires { ⌜ (0 < length (now bytes)) × (start .0 + length (now bytes) ≤ length (now flash)) ⌝ }
+    requires { ⌜ (length (now flash) % 128 ≡ 0) × (length (now flash) ≤ 65536) ⌝ }
+    ensures { λ r. ⌜ r ≡ pagesMet (start .0) (start .0 + length (now (bytes .entry)) - 1) ⌝ }
+    ensures { λ r. ⌜ now (flash .exit) ≡ overlay (start .0) (now (bytes .entry)) (now (flash .entry)) ⌝ }
+{
+    let first = start.0 as usize;
+    let n = bytes.len();
+    let place = first % PAGE_SIZE;
+    let head = words::least((PAGE_SIZE - place) % PAGE_SIZE, n);
+    let count = (n - head) / PAGE_SIZE;
+    let tail = head + PAGE_SIZE * count;
+    let next = Page(((first + head) / PAGE_SIZE) as u16);
+    let front = store_part(
+        flash,
+        Page((first / PAGE_SIZE) as u16),
+        place,
+        &bytes[..head],
+    );
+    let whole = store_pages(flash, next, count, bytes, head);
+    let back = store_part(flash, page_after(next, count), 0, &bytes[tail..]);
+    front + whole + back
 }
 
 // Programs a range of flash, and answers how many pages were stored. Where the flash has not its size, the range is backward or
@@ -54,7 +92,7 @@ fn program_flash(start: FlashAddress, end: FlashAddress, bytes: &[u8], flash: &m
     if bytes.len() != last + 1 - first {
         return 0;
     }
-    program_pages(flash, first, bytes)
+    program_pages(flash, start, bytes)
 }
 
 // Programs a range of EEPROM; where `program_flash` would store nothing, nothing is laid.

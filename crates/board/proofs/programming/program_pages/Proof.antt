@@ -1,158 +1,186 @@
--- `board::programming::program_pages` meets its contract. The invariant: the bytes up to the address `at` are laid over the flash,
--- and the pages before it are counted, at the end the last one too.
+-- `board::programming::program_pages` meets its contract: a part of the first page, whole pages and a part of the last, laid one
+-- after another, are the bytes laid over the flash, and those are all the pages that the range meets.
 -- Assumes nothing.
+use mathlib.Core.Logic.{⊎-elim}
 use mathlib.Core.Path.{_≡_, refl, sym, ap, _∙_}
-use mathlib.Core.List.{List, _++_}
-use Prim.Native.Nat.{ℕ, _+_, _-_, _*_, _/_, _%_, _≤_, _<_, min}
+use mathlib.Core.List.{List}
+use Prim.Native.Nat.{ℕ, suc, _+_, _-_, _*_, _/_, _%_, _≤_, _<_, min}
+use native.Mathlib.Nat.{eq-or-lt-of-le}
 use native.Mathlib.Omega.{arith}
-use lib.ListN.{length, take, drop, length-drop}
-use lib.Seq.{length-take-le, take-add, take-all}
+use lib.ListN.{length, take, drop, length-take, length-drop}
+use lib.Seq.{length-take-le, take-all}
+use mir.Syntax.{w64}
+use mir.Val.{Fits}
 use Rattle.words.specs.Words.{overlay}
-use Rattle.words.proofs.WordsLaws.{length-overlay, overlay-append, overlay-none}
-use Rattle.board.specs.Memory.{page, pageSize}
-use Rattle.board.specs.Pages.{storeAll, pageStore, pagesMet}
-use Rattle.board.proofs.PagesLaws.{length-pageStore, storeAll-pageStore}
+use Rattle.words.proofs.WordsLaws.{overlay-more, overlay-place}
+use Rattle.board.specs.Memory.{pageSize}
+use Rattle.board.specs.Pages.{pagesMet}
 use borrow.Author.Needs.{needs}
 use Rattle.board.proofs.programming.program_pages.Statement.{statement}
 use Rattle.board.proofs.programming.program_pages.Tie as tie
 
--- of the bytes d for the memory m₀ from `start` on
-record Inv (m₀ : List ℕ) (start : ℕ) (d m : List ℕ) (at pages : ℕ) : Type 0 where
-  after-start : start ≤ at
-  before-end : at ≤ start + length d
-  counting : at < start + length d → start / pageSize + pages ≡ at / pageSize
-  counted : start + length d ≤ at → start / pageSize + pages ≡ (start + length d - 1) / pageSize + 1
-  same-size : length m ≡ length m₀
-  laid-so-far : m ≡ overlay start (take (at - start) d) m₀
+-- ---- how many pages n bytes from a on meet, h of them before the first page that begins in them
 
-begun : (m₀ : List ℕ) (start : ℕ) (d : List ℕ) → 0 < length d → Inv m₀ start d m₀ start 0
-begun m₀ start d h =
-    let z : start - start ≡ 0 = omega arith in
-    record {
-      after-start = omega arith;
-      before-end = omega arith;
-      counting = λ k. omega arith;
-      counted = λ k. omega arith;
-      same-size = refl;
-      laid-so-far = rw z (sym (overlay-none start m₀));
-    }
+-- the pages up to where that page begins, and those from there on: k whole ones and y bytes
+pages-before : (a h : ℕ) → a % pageSize + h ≤ pageSize → (a + h) % pageSize ≡ 0 → min 1 h + a / pageSize ≡ (a + h) / pageSize
+pages-before a h ends aligned = omega arith
 
--- one page more, up to the address `next`
-module _ (m₀ : List ℕ) (start : ℕ) (d m : List ℕ) (at pages next : ℕ) (inv : Inv m₀ start d m at pages) (more : at < start + length d)
-    (fits : start + length d ≤ length m₀) (whole : length m₀ % pageSize ≡ 0) (ends : next ≡ min (pageSize * (at / pageSize) + pageSize) (start + length d)) where
-  abbrev piece : List ℕ
-  piece = take (next - start - (at - start)) (drop (at - start) d)
+pages-after : (a n h k y : ℕ) → (a + h) % pageSize ≡ 0 → n ≡ h + (pageSize * k + y) → y < pageSize → h < n
+    → (a + h) / pageSize + k + min 1 y ≡ suc ((a + n - 1) / pageSize)
+pages-after a n h k y aligned all small more = omega arith
 
-  further : (at < next) × (next ≤ start + length d) × (next ≤ pageSize * (at / pageSize) + pageSize)
-  further = omega arith
+pages-joined : (x p b k y e : ℕ) → x + p ≡ b → b + k + y ≡ suc e → x + k + y ≡ suc e - p
+pages-joined x p b k y e before after = omega arith
 
-  length-piece : length piece ≡ next - at
-  length-piece =
-      let n : next - start - (at - start) ≡ next - at = omega (arith, further, inv .after-start) in
-      rw n (length-take-le (next - at) (drop (at - start) d) (simp length-drop (omega (arith, further, inv .after-start))))
+module _ (a n h : ℕ) (any : 0 < n) (ends : a % pageSize + h ≤ pageSize) where
+  abbrev k : ℕ
+  k = (n - h) / pageSize
 
-  pieces : take (at - start) d ++ piece ≡ take (next - start) d
-  pieces =
-      let n : at - start + (next - start - (at - start)) ≡ next - start = omega (arith, further, inv .after-start) in
-      sym (take-add (at - start) (next - start - (at - start)) d) ∙ ap (λ k. take k d) n
+  in-one : h ≡ n → min 1 h + k + min 1 (n - (h + pageSize * k)) ≡ pagesMet a (a + n - 1)
+  in-one e =
+      let z : n - h ≡ 0 = omega arith in
+      rw z (omega arith)
 
-  within : at % pageSize + length piece ≤ pageSize
-  within = omega (arith, further, length-piece)
+  in-several : (a + h) % pageSize ≡ 0 → h < n → min 1 h + k + min 1 (n - (h + pageSize * k)) ≡ pagesMet a (a + n - 1)
+  in-several aligned more =
+      let y : ℕ = (n - h) % pageSize in
+      let all : n ≡ h + (pageSize * k + y) = omega arith in
+      let rest : n - (h + pageSize * k) ≡ y = omega arith in
+      let after : (a + h) / pageSize + k + min 1 y ≡ suc ((a + n - 1) / pageSize) = pages-after a n h k y aligned all (omega arith) more in
+      rw rest (pages-joined _ _ _ _ _ _ (pages-before a h ends aligned) after)
 
-  there : pageSize * (at / pageSize) + pageSize ≤ length m
-  there = omega (arith, inv .same-size)
+-- ---- the bytes d for a memory from a on: h of them to the first page's end, whole pages up to t, and the rest
 
-  front : length (take (at - start) d) ≡ at - start
-  front = length-take-le (at - start) d (omega (arith, inv .before-end))
+module _ (a : ℕ) (d m₀ : List ℕ) (h : ℕ) (any : 0 < length d) (fits : a + length d ≤ length m₀)
+    (head : h ≡ min ((pageSize - a % pageSize) % pageSize) (length d)) where
+  abbrev whole : ℕ
+  whole = (length d - h) / pageSize
 
-  laid-further : overlay (pageSize * (at / pageSize) + at % pageSize) piece m ≡ overlay start (take (next - start) d) m₀
-  laid-further =
-      let place : pageSize * (at / pageSize) + at % pageSize ≡ start + length (take (at - start) d) = omega (arith, inv .after-start, front) in
-      ap (λ k. overlay k piece m) place
-      ∙ ap (overlay (start + length (take (at - start) d)) piece) (inv .laid-so-far)
-      ∙ overlay-append start (take (at - start) d) piece m₀ (omega (arith, further, inv .after-start, front, length-piece))
-      ∙ ap (λ x. overlay start x m₀) pieces
+  abbrev t : ℕ
+  t = h + pageSize * whole
 
-  stored-one : length (pageStore (page (at / pageSize)) (at % pageSize) piece m) ≡ 1
-  stored-one = length-pageStore (page (at / pageSize)) (at % pageSize) piece m within there
+  abbrev rest : List ℕ
+  rest = take (length d - t) (drop t d)
 
-  few : (r : ℕ) → r ≡ length (pageStore (page (at / pageSize)) (at % pageSize) piece m) → pages + r ≤ length m₀
-  few r qr =
-      let one : r ≡ 1 = qr ∙ stored-one in
-      omega (arith, inv .counting more)
+  length-rest : length rest ≡ length d - t
+  length-rest = length-take-le (length d - t) (drop t d) (simp length-drop (omega arith))
 
-  one-more : (m′ : List ℕ) (r : ℕ) → r ≡ length (pageStore (page (at / pageSize)) (at % pageSize) piece m)
-      → m′ ≡ storeAll (pageStore (page (at / pageSize)) (at % pageSize) piece m) m → Inv m₀ start d m′ next (pages + r)
-  one-more m′ r qr qm =
-      let one : r ≡ 1 = qr ∙ stored-one in
-      let laid : m′ ≡ overlay start (take (next - start) d) m₀
-      = qm ∙ storeAll-pageStore (page (at / pageSize)) (at % pageSize) piece m within there ∙ laid-further in
-      let n : length (take (next - start) d) ≡ next - start = length-take-le (next - start) d (omega (arith, further)) in
-      record {
-        after-start = omega (arith, further, inv .after-start);
-        before-end = further .1;
-        counting = λ h. omega (arith, inv .counting more);
-        counted = λ h. omega (arith, inv .counting more);
-        same-size = ap length laid ∙ length-overlay start (take (next - start) d) m₀ (omega (arith, further, n, inv .after-start));
-        laid-so-far = laid;
-      }
+  within : h ≤ length d
+  within = omega arith
 
--- all the pages
-ended : (m₀ : List ℕ) (start : ℕ) (d m : List ℕ) (at pages : ℕ) → Inv m₀ start d m at pages → start + length d ≤ at
-    → (pages ≡ pagesMet start (start + length d - 1)) × (m ≡ overlay start d m₀)
-ended m₀ start d m at pages inv h =
-    (omega (arith, inv .counted h), inv .laid-so-far ∙ ap (λ x. overlay start x m₀) (take-all (at - start) d (omega arith)))
+  -- where bytes are left, a page begins
+  aligned : h < length d → (a + h) % pageSize ≡ 0
+  aligned more = omega arith
 
-abbrev Inv-loop : tie.InvT-loop
-Inv-loop flash₀ start bytes end at₀ pages₀ flash at pages = Inv flash₀ start bytes flash at pages
+  at-pages : 0 < length (take (pageSize * whole) (drop h d)) → pageSize * ((a + h) / pageSize) ≡ a + h
+  at-pages any-whole =
+      let l : length (take (pageSize * whole) (drop h d)) ≡ pageSize * whole = length-take-le (pageSize * whole) (drop h d) (simp length-drop (omega arith)) in
+      let more : h < length d = omega arith in
+      omega (arith, aligned more)
 
-abbrev μ-loop : tie.MeasureT-loop
-μ-loop flash₀ start bytes end at₀ pages₀ flash at pages = end - at
+  at-rest : (p : ℕ) → p ≡ (a + h) / pageSize + whole → 0 < length rest → pageSize * p + 0 ≡ a + t
+  at-rest p e any-rest =
+      let more : h < length d = omega (arith, length-rest) in
+      omega (arith, aligned more)
 
-add-end : tie.Need-add-end Inv-loop μ-loop
-add-end c = omega arith
+  all-laid : (p : ℕ) (m₁ m₂ m₃ : List ℕ) → p ≡ (a + h) / pageSize + whole → m₁ ≡ overlay (pageSize * (a / pageSize) + a % pageSize) (take h d) m₀
+      → m₂ ≡ overlay (pageSize * ((a + h) / pageSize)) (take (pageSize * whole) (drop h d)) m₁ → m₃ ≡ overlay (pageSize * p + 0) rest m₂
+      → m₃ ≡ overlay a d m₀
+  all-laid p m₁ m₂ m₃ e q₁ q₂ q₃ =
+      let place : pageSize * (a / pageSize) + a % pageSize ≡ a = omega arith in
+      let e₁ : m₁ ≡ overlay a (take h d) m₀ = rw place at q₁ in
+      let e₂ : m₂ ≡ overlay a (take t d) m₀
+      = q₂
+      ∙ overlay-place (pageSize * ((a + h) / pageSize)) (a + h) (take (pageSize * whole) (drop h d)) m₁ at-pages
+      ∙ ap (overlay (a + h) (take (pageSize * whole) (drop h d))) e₁
+      ∙ overlay-more a h (pageSize * whole) d m₀ (omega arith) fits in
+      q₃
+      ∙ overlay-place (pageSize * p + 0) (a + t) rest m₂ (at-rest p e)
+      ∙ ap (overlay (a + t) rest) e₂
+      ∙ overlay-more a t (length d - t) d m₀ (omega arith) fits
+      ∙ ap (λ x. overlay a x m₀) (take-all (t + (length d - t)) d (omega arith))
 
-loop-holds : tie.Need-loop-holds Inv-loop μ-loop
-loop-holds c = begun _ _ _ (c .before .before .pre .0)
+  all-counted : (r₁ r₂ r₃ : ℕ) → r₁ ≡ min 1 (length (take h d)) → r₂ ≡ whole → r₃ ≡ min 1 (length rest) → r₁ + r₂ + r₃ ≡ pagesMet a (a + length d - 1)
+  all-counted r₁ r₂ r₃ p₁ p₂ p₃ =
+      let n : ℕ = length d in
+      let ends : a % pageSize + h ≤ pageSize = omega arith in
+      let l : length (take h d) ≡ h = length-take-le h d within in
+      let sum : r₁ + r₂ + r₃ ≡ min 1 h + whole + min 1 (n - t) = rw (p₁, p₂, p₃, l, length-rest) in
+      sum ∙ ⊎-elim (in-one a n h any ends) (λ more. in-several a n h any ends (aligned more) more) (eq-or-lt-of-le within)
 
-mul-least : tie.Need-mul-least Inv-loop μ-loop
-mul-least c = omega arith
+-- so few pages are counted within a word
+module _ (a n h l x y r₁ r₂ r₃ : ℕ) (fits : a + n ≤ l) (small : l ≤ 65536) (front : r₁ ≡ min 1 x) (whole : r₂ ≡ (n - h) / pageSize) where
+  few : Fits w64 (r₁ + r₂)
+  few = omega arith
 
-add-least : tie.Need-add-least Inv-loop μ-loop
-add-least c = omega arith
+  few-more : r₃ ≡ min 1 y → Fits w64 (r₁ + r₂ + r₃)
+  few-more back = omega arith
 
-sub-from : tie.Need-sub-from Inv-loop μ-loop
-sub-from c = omega arith
+slice-aggregate-store-part : tie.Need-slice-aggregate-store-part
+slice-aggregate-store-part c =
+    let start = c .before .before .before .before .before .before in
+    sym (length-take-le (c .before .before .least .result) (start .args .bytes .now) (omega arith))
 
-sub-to : tie.Need-sub-to Inv-loop μ-loop
-sub-to c = omega arith
+store-part-requires : tie.Need-store-part-requires
+store-part-requires c κs =
+    let start = c .before .before .before .before .before .before in
+    (simp length-take (omega arith), simp length-take (omega arith), start .pre .1 .0)
 
-cast-t17 : tie.Need-cast-t17 Inv-loop μ-loop
-cast-t17 c = omega arith
+add-result : tie.Need-add-result
+add-result c =
+    let whole = c .before .before .before .before .before .before .before .before in
+    let front = whole .before .before .before .before in
+    let start = front .before .before .before .before .before .before .before in
+    few _ _ _ _ _ 0 _ _ 0 (start .pre .0 .1) (start .pre .1 .1) (front .store-part .ensures .0) (whole .store-pages .ensures .0)
 
-sub-store-page : tie.Need-sub-store-page Inv-loop μ-loop
-sub-store-page c = omega arith
+add-result-2 : tie.Need-add-result-2
+add-result-2 c =
+    let back = c .before .before .store-part2 in
+    let whole = c .before .before .before .before .before .before .before .before in
+    let front = whole .before .before .before .before in
+    let start = front .before .before .before .before .before .before .before in
+    few-more _ _ _ _ _ _ _ _ _ (start .pre .0 .1) (start .pre .1 .1) (front .store-part .ensures .0) (whole .store-pages .ensures .0) (back .ensures .0)
 
-part-store-page-start : tie.Need-part-store-page-start Inv-loop μ-loop
-part-store-page-start c = omega arith
-
-part-store-page-end : tie.Need-part-store-page-end Inv-loop μ-loop
-part-store-page-end c = omega arith
-
-add-pages : tie.Need-add-pages Inv-loop μ-loop
-add-pages c = omega (arith, few _ _ _ _ _ _ _ (c .before .before .before .before .before .before .before .loop .inv) (c .before .before .before .before .before .before .loop-test .taken) (c .before .before .before .before .before .before .before .before .before .before .pre .1) (c .before .before .before .before .before .before .before .before .before .before .pre .2) (c .before .before .before .before .before .least .ensures) _ (c .before .before .store-page .ensures .0))
-
-loop-less : tie.Need-loop-less Inv-loop μ-loop
-loop-less c = omega arith
-
-loop-again : tie.Need-loop-again Inv-loop μ-loop
-loop-again c = one-more _ _ _ _ _ _ _ (c .before .before .before .before .before .before .before .loop .inv) (c .before .before .before .before .before .before .loop-test .taken) (c .before .before .before .before .before .before .before .before .before .before .pre .1) (c .before .before .before .before .before .before .before .before .before .before .pre .2) (c .before .before .before .before .before .least .ensures) _ _ (c .before .before .store-page .ensures .0) (c .before .before .store-page .ensures .1)
-
-same-length : tie.Need-same-length Inv-loop μ-loop
-same-length c = c .before .loop .inv .same-size
-
-returns : tie.Need-returns Inv-loop μ-loop
-returns c = ended _ _ _ _ _ _ (c .before .loop .inv) (c .loop-test .left)
+returns : tie.Need-returns
+returns c =
+    let back = c .before .before in
+    let next = back .before .before .page-after .ensures in
+    let whole = back .before .before .before .before .before .before .store-pages .ensures in
+    let front = back .before .before .before .before .before .before .before .before .before .before in
+    let least = front .before .before .before in
+    let start = least .before .before .before .before in
+    let a = start .args .start .0 in
+    let d = start .args .bytes .now in
+    let m = start .args .flash .now in
+    let any = start .pre .0 .0 in
+    let fits = start .pre .0 .1 in
+    let head = least .least .ensures in (
+      all-counted a d m _ any fits head _ _ _ (front .store-part .ensures .0) (whole .0) (back .store-part2 .ensures .0),
+      all-laid a d m _ any fits head _ _ _ _ next (front .store-part .ensures .1) (whole .1) (back .store-part2 .ensures .1),
+    )
 
 pub program-pages-spec : {M : Type 1} → statement M
-program-pages-spec = tie.close (tie.spec Inv-loop μ-loop add-end loop-holds mul-least add-least (λ c κs. search needs) sub-from sub-to cast-t17 sub-store-page part-store-page-start part-store-page-end (λ c κs. search needs) add-pages loop-less loop-again same-length returns)
+program-pages-spec =
+    tie.close
+    (tie.spec
+    (λ c. search needs)
+    (λ c. search needs)
+    (λ c κs. search needs)
+    (λ c. search needs)
+    (λ c. search needs)
+    (λ c. search needs)
+    (λ c. search needs)
+    (λ c. search needs)
+    (λ c. search needs)
+    slice-aggregate-store-part
+    store-part-requires
+    (λ c κs. search needs)
+    (λ c κs. search needs)
+    (λ c. search needs)
+    (λ c. search needs)
+    (λ c. search needs)
+    (λ c κs. search needs)
+    add-result
+    add-result-2
+    (λ c. search needs)
+    returns)
