@@ -100,14 +100,12 @@ module _ (first count : ℕ) (d m₀ m : List ℕ) (pages : ℕ) (s : Stored fir
       ∙ ap (λ y. overlay (pageSize * first) (so-far ++ y) m₀) its
       ∙ ap (λ y. overlay (pageSize * first) y m₀) (sym (take-add (pageSize * pages) pageSize d) ∙ ap (λ k. take k d) total)
 
-  pub stored-more : (m′ : List ℕ) (r : ℕ) → r ≡ length (pageStore p 0 x m) → m′ ≡ storeAll (pageStore p 0 x m) m
-      → (r ≡ 1) × Stored first count d m₀ m′ (pages + r)
-  stored-more m′ r qr qm =
-      let one : r ≡ 1 = qr ∙ length-pageStore p 0 x m within there in
-      let laid : m′ ≡ overlay (pageSize * first) (take (pageSize * (pages + 1)) d) m₀ = qm ∙ storeAll-pageStore p 0 x m within there ∙ laid-further in
+  pub stored-more : (m′ : List ℕ) (r : ℕ) → r ≡ 1 → m′ ≡ storeAll (pageStore p 0 x m) m → Stored first count d m₀ m′ (pages + r)
+  stored-more m′ r one q =
+      let laid : m′ ≡ overlay (pageSize * first) (take (pageSize * (pages + 1)) d) m₀ = q ∙ storeAll-pageStore p 0 x m within there ∙ laid-further in
       let l : length (take (pageSize * (pages + 1)) d) ≡ pageSize * (pages + 1) = length-take-le (pageSize * (pages + 1)) d (omega arith) in
       let size : length m′ ≡ length m₀ = ap length laid ∙ length-overlay (pageSize * first) (take (pageSize * (pages + 1)) d) m₀ (omega arith) in
-      (one, rw one (record { up-to-count = omega arith; same-size = size; laid-so-far = laid }))
+      rw one (record { up-to-count = omega arith; same-size = size; laid-so-far = laid })
 
 pub stored-all : (first count : ℕ) (d m₀ m : List ℕ) (pages : ℕ) → Stored first count d m₀ m pages → count ≤ pages
     → (pages ≡ count) × (m ≡ overlay (pageSize * first) (take (pageSize * count) d) m₀)

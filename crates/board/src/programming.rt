@@ -4,7 +4,7 @@ ghost use Prim.Native.Nat.{_+_, _-_, _*_, _%_, _≤_, _<_, min};
 ghost use lib.ListN.{length, take, drop};
 ghost use Rattle.words.specs.Words.{overlay};
 ghost use Rattle.board.specs.Pages.{storeAll, pagesMet};
-ghost use Rattle.board.specs.Program.{flashStores, eepromAfter, programmedPages, programmedFlash, programmedEeprom};
+ghost use Rattle.board.specs.Program.{programmable, flashStores, eepromAfter, programmedPages, programmedFlash, programmedEeprom};
 use crate::EEPROM_SIZE;
 use crate::FLASH_SIZE;
 use crate::PAGE_SIZE;
@@ -72,45 +72,40 @@ fn program_pages(flash: &mut [u8], start: FlashAddress, bytes: &[u8]) -> usize
     front + whole + back
 }
 
-// Programs a range of flash, and answers how many pages were stored. Where the flash has not its size, the range is backward or
-// outside, or the bytes are not as many as the range has, nothing is stored.
+// Whether a memory has the size that it should have, the range is forward and inside it, and the bytes are as many as the range
+// has: the one test for both memories.
+fn is_programmable(size: usize, first: usize, last: usize, bytes: &[u8], memory: &[u8]) -> bool
+    ensures { λ r. ⌜ r ≡ programmable size first last (now (bytes .entry)) (now (memory .entry)) ⌝ }
+{
+    if memory.len() != size {
+        return false;
+    }
+    if last < first {
+        return false;
+    }
+    if size <= last {
+        return false;
+    }
+    bytes.len() == last + 1 - first
+}
+
+// Programs a range of flash, and answers how many pages were stored; nothing is stored where it is not programmable.
 fn program_flash(start: FlashAddress, end: FlashAddress, bytes: &[u8], flash: &mut [u8]) -> usize
     ensures { λ r. ⌜ r ≡ length (flashStores start end (now (bytes .entry)) (now (flash .entry))) ⌝ }
     ensures { λ r. ⌜ now (flash .exit) ≡ storeAll (flashStores start end (now (bytes .entry)) (now (flash .entry))) (now (flash .entry)) ⌝ }
 {
-    let first = start.0 as usize;
-    let last = end.0 as usize;
-    if flash.len() != FLASH_SIZE {
-        return 0;
-    }
-    if last < first {
-        return 0;
-    }
-    if FLASH_SIZE <= last {
-        return 0;
-    }
-    if bytes.len() != last + 1 - first {
+    if !is_programmable(FLASH_SIZE, start.0 as usize, end.0 as usize, bytes, flash) {
         return 0;
     }
     program_pages(flash, start, bytes)
 }
 
-// Programs a range of EEPROM; where `program_flash` would store nothing, nothing is laid.
+// Programs a range of EEPROM; nothing is laid where it is not programmable.
 fn program_eeprom(start: EepromAddress, end: EepromAddress, bytes: &[u8], eeprom: &mut [u8])
     ensures { λ r. ⌜ now (eeprom .exit) ≡ eepromAfter start end (now (bytes .entry)) (now (eeprom .entry)) ⌝ }
 {
     let first = start.0 as usize;
-    let last = end.0 as usize;
-    if eeprom.len() != EEPROM_SIZE {
-        return;
-    }
-    if last < first {
-        return;
-    }
-    if EEPROM_SIZE <= last {
-        return;
-    }
-    if bytes.len() != last + 1 - first {
+    if !is_programmable(EEPROM_SIZE, first, end.0 as usize, bytes, eeprom) {
         return;
     }
     words::lay(eeprom, first, bytes);

@@ -60,24 +60,10 @@ store-whole-requires : tie.Need-store-whole-requires Inv-loop μ-loop
 store-whole-requires c κs = (omega arith, omega arith)
 
 add-pages : tie.Need-add-pages Inv-loop μ-loop
-add-pages c =
-    let stored = c .before .before .store-whole in
-    let next = c .before .before .before .before .page-after .ensures in
-    let test = c .before .before .before .before .before .before in
-    let inv = test .before .loop .inv in
-    let start = test .before .before .before in
-    let its = page-of _ _ _ (test .loop-test .taken) (inv .0) in
-    omega (arith, stored-more _ _ _ _ _ _ (inv .1) (test .loop-test .taken) (start .pre .0) (enough _) _ _ next its _ _ (stored .ensures .0) (stored .ensures .1) .0)
+add-pages c = omega arith
 
 loop-less : tie.Need-loop-less Inv-loop μ-loop
-loop-less c =
-    let stored = c .before .before .store-whole in
-    let next = c .before .before .before .before .page-after .ensures in
-    let test = c .before .before .before .before .before .before in
-    let inv = test .before .loop .inv in
-    let start = test .before .before .before in
-    let its = page-of _ _ _ (test .loop-test .taken) (inv .0) in
-    omega (arith, stored-more _ _ _ _ _ _ (inv .1) (test .loop-test .taken) (start .pre .0) (enough _) _ _ next its _ _ (stored .ensures .0) (stored .ensures .1) .0)
+loop-less c = omega arith
 
 loop-again : tie.Need-loop-again Inv-loop μ-loop
 loop-again c =
@@ -87,7 +73,7 @@ loop-again c =
     let inv = test .before .loop .inv in
     let start = test .before .before .before in
     let its = page-of _ _ _ (test .loop-test .taken) (inv .0) in
-    (inv .0, stored-more _ _ _ _ _ _ (inv .1) (test .loop-test .taken) (start .pre .0) (enough _) _ _ next its _ _ (stored .ensures .0) (stored .ensures .1) .1)
+    (inv .0, stored-more _ _ _ _ _ _ (inv .1) (test .loop-test .taken) (start .pre .0) (enough _) _ _ next its _ _ (stored .ensures .0) (stored .ensures .1))
 
 same-length : tie.Need-same-length Inv-loop μ-loop
 same-length c = c .before .loop .inv .1 .same-size

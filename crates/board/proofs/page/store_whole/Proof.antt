@@ -12,7 +12,7 @@ use borrow.Rule.Slice.PartMut.{putMid}
 use Rattle.words.proofs.WordsLaws.{copied, copied-back}
 use Rattle.board.specs.Memory.{Page, pageSize}
 use Rattle.board.specs.Pages.{storeAll, pageStore}
-use Rattle.board.proofs.PagesLaws.{length-pageStore, storeAll-pageStore}
+use Rattle.board.proofs.PagesLaws.{storeAll-pageStore}
 use Rattle.board.proofs.page.store_whole.Statement.{statement}
 use Rattle.board.proofs.page.store_whole.Tie as tie
 
@@ -30,21 +30,19 @@ module _ (p : Page) (from : ℕ) (s m z held q : List ℕ) (there : pageSize * p
 
   stored : held ≡ copied (take (from + pageSize - from) (drop from s)) z
       → q ≡ copied held (take (length m - pageSize * p .0) (drop (pageSize * p .0) m))
-      → (1 ≡ length (pageStore p 0 d m)) × (putMid (pageSize * p .0) (length m - pageSize * p .0) m q ≡ storeAll (pageStore p 0 d m) m)
+      → putMid (pageSize * p .0) (length m - pageSize * p .0) m q ≡ storeAll (pageStore p 0 d m) m
   stored e f =
       let n : from + pageSize - from ≡ pageSize = omega arith in
       let same : held ≡ d = (rw n at e) ∙ copied-whole d z (length-d ∙ sym array) in
       let within : 0 + length d ≤ pageSize = omega (arith, length-d) in
-      let place : pageSize * p .0 + 0 ≡ pageSize * p .0 = add-zero (pageSize * p .0) in (
-        sym (length-pageStore p 0 d m within there),
-        rw (storeAll-pageStore p 0 d m within there, place) (copied-back (pageSize * p .0) d m q (omega (arith, length-d)) (rw same at f)),
-      )
+      let place : pageSize * p .0 + 0 ≡ pageSize * p .0 = add-zero (pageSize * p .0) in
+      rw (storeAll-pageStore p 0 d m within there, place) (copied-back (pageSize * p .0) d m q (omega (arith, length-d)) (rw same at f))
 
 returns : tie.Need-returns
 returns c =
     let held = c .before .before .before .before .before .before in
     let start = held .before .before .before .before .before .before in
-    stored _ _ _ _ _ _ _ (start .pre .0) (start .pre .1) refl (held .copy .ensures .1) (c .before .before .copy2 .ensures .1)
+    (refl, stored _ _ _ _ _ _ _ (start .pre .0) (start .pre .1) refl (held .copy .ensures .1) (c .before .before .copy2 .ensures .1))
 
 pub store-whole-spec : {M : Type 1} → statement M
 store-whole-spec =

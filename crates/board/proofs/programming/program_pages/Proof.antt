@@ -109,7 +109,7 @@ module _ (a : ℕ) (d m₀ : List ℕ) (h : ℕ) (any : 0 < length d) (fits : a 
       sum ∙ ⊎-elim (in-one a n h any ends) (λ more. in-several a n h any ends (aligned more) more) (eq-or-lt-of-le within)
 
 -- so few pages are counted within a word
-module _ (a n h l x y r₁ r₂ r₃ : ℕ) (fits : a + n ≤ l) (small : l ≤ 65536) (front : r₁ ≡ min 1 x) (whole : r₂ ≡ (n - h) / pageSize) where
+module _ (x y k r₁ r₂ r₃ : ℕ) (front : r₁ ≡ min 1 x) (whole : r₂ ≡ k) (small : k ≤ 512) where
   few : Fits w64 (r₁ + r₂)
   few = omega arith
 
@@ -129,17 +129,13 @@ store-part-requires c κs =
 add-result : tie.Need-add-result
 add-result c =
     let whole = c .before .before .before .before .before .before .before .before in
-    let front = whole .before .before .before .before in
-    let start = front .before .before .before .before .before .before .before in
-    few _ _ _ _ _ 0 _ _ 0 (start .pre .0 .1) (start .pre .1 .1) (front .store-part .ensures .0) (whole .store-pages .ensures .0)
+    few _ 0 _ _ _ 0 (whole .before .before .before .before .store-part .ensures .0) (whole .store-pages .ensures .0) (omega arith)
 
 add-result-2 : tie.Need-add-result-2
 add-result-2 c =
-    let back = c .before .before .store-part2 in
+    let back = c .before .before .store-part2 .ensures in
     let whole = c .before .before .before .before .before .before .before .before in
-    let front = whole .before .before .before .before in
-    let start = front .before .before .before .before .before .before .before in
-    few-more _ _ _ _ _ _ _ _ _ (start .pre .0 .1) (start .pre .1 .1) (front .store-part .ensures .0) (whole .store-pages .ensures .0) (back .ensures .0)
+    few-more _ _ _ _ _ _ (whole .before .before .before .before .store-part .ensures .0) (whole .store-pages .ensures .0) (omega arith) (back .0)
 
 returns : tie.Need-returns
 returns c =

@@ -41,26 +41,10 @@ store-whole-requires : tie.Need-store-whole-requires Inv-loop μ-loop
 store-whole-requires c κs = (omega arith, omega arith)
 
 add-pages : tie.Need-add-pages Inv-loop μ-loop
-add-pages c =
-    let stored = c .before .before .store-whole in
-    let next = c .before .before .before .page-after .ensures in
-    let test = c .before .before .before .before .before in
-    let loop = test .before .loop in
-    let start = test .before .before .before .before in
-    let room = enough (start .args .from) _ (start .args .bytes .now) (start .pre .2) in
-    let its = page-of (start .args .from) (loop .pages) (start .args .bytes .now) in
-    omega (arith, stored-more _ _ _ _ _ _ (loop .inv) (test .loop-test .taken) (start .pre .0) room _ _ next its _ _ (stored .ensures .0) (stored .ensures .1) .0)
+add-pages c = omega arith
 
 loop-less : tie.Need-loop-less Inv-loop μ-loop
-loop-less c =
-    let stored = c .before .before .store-whole in
-    let next = c .before .before .before .page-after .ensures in
-    let test = c .before .before .before .before .before in
-    let loop = test .before .loop in
-    let start = test .before .before .before .before in
-    let room = enough (start .args .from) _ (start .args .bytes .now) (start .pre .2) in
-    let its = page-of (start .args .from) (loop .pages) (start .args .bytes .now) in
-    omega (arith, stored-more _ _ _ _ _ _ (loop .inv) (test .loop-test .taken) (start .pre .0) room _ _ next its _ _ (stored .ensures .0) (stored .ensures .1) .0)
+loop-less c = omega arith
 
 loop-again : tie.Need-loop-again Inv-loop μ-loop
 loop-again c =
@@ -71,7 +55,7 @@ loop-again c =
     let start = test .before .before .before .before in
     let room = enough (start .args .from) _ (start .args .bytes .now) (start .pre .2) in
     let its = page-of (start .args .from) (loop .pages) (start .args .bytes .now) in
-    stored-more _ _ _ _ _ _ (loop .inv) (test .loop-test .taken) (start .pre .0) room _ _ next its _ _ (stored .ensures .0) (stored .ensures .1) .1
+    stored-more _ _ _ _ _ _ (loop .inv) (test .loop-test .taken) (start .pre .0) room _ _ next its _ _ (stored .ensures .0) (stored .ensures .1)
 
 same-length : tie.Need-same-length Inv-loop μ-loop
 same-length c = c .before .loop .inv .same-size
