@@ -4,8 +4,9 @@ use mathlib.Core.Path.{_≡_, refl, sym, ap, _∙_}
 use mathlib.Core.Bool.{Bool}
 use mathlib.Core.List.{List, [], _∷_, map}
 use mathlib.Core.Option.{Option, none, some}
-use Prim.Native.Nat.{ℕ, zero, suc, _+_, _-_, _≤_, _<_, min, max, suc-le-suc}
+use Prim.Native.Nat.{ℕ, zero, suc, _+_, _-_, _≤_, _<_, min, suc-le-suc}
 use native.Mathlib.Nat.{add-zero, zero-add, suc-add, add-suc, le-of-suc-le-suc, not-suc-le-zero, zero-lt-suc}
+use native.Mathlib.Numerals.{add-one}
 use native.Mathlib.Omega.{arith}
 use lib.Dec.{eqb}
 use native.Mathlib.Decide.{decLe}
@@ -13,7 +14,7 @@ use lib.ListN.{length, take, drop, getD, length-drop}
 use lib.Seq.{drop-cons, take-all}
 use borrow.Author.Tests.{eq-eqb, ne-eqb}
 use Rattle.words.specs.Words.{if_then_else_, part}
-use Rattle.blank.specs.Blank.{firstUsed, AllBlank, usedIn}
+use Rattle.blank.specs.Blank.{firstUsed, AllBlank, Passed, usedIn}
 use Rattle.words.proofs.WordsLaws.{part-whole}
 
 -- FFh at each place before x, and not at x: x is found
@@ -83,9 +84,9 @@ take-cut a n stop f h (no l) =
     take-all (n - a) (drop a f) (simp length-drop (omega arith)) ∙ sym (take-all (stop - a) (drop a f) (simp length-drop (omega arith)))
 
 -- the search of a range that is cut at the flash's end
-pub usedIn-before : (a e stop : ℕ) (f : List ℕ) → stop ≡ min (suc e) (length f) → usedIn a e f ≡ usedBefore stop a f
+pub usedIn-before : (a e stop : ℕ) (f : List ℕ) → stop ≡ min (e + 1) (length f) → usedIn a e f ≡ usedBefore stop a f
 unfolding usedIn usedBefore
-usedIn-before a e stop f h = ap (firstUsed a) (take-cut a (suc e) stop f h (decLe (suc e) (length f)))
+usedIn-before a e stop f h = ap (firstUsed a) (take-cut a (suc e) stop f (rw add-one at h) (decLe (suc e) (length f)))
 
 -- a byte that is not FFh is found; one that is FFh is passed; at the end nothing is found
 pub usedBefore-here : (stop i : ℕ) (f : List ℕ) → i < stop → stop ≤ length f → (getD f i 0 ≡ 0xFF → ⊥) → usedBefore stop i f ≡ some i
@@ -131,11 +132,14 @@ usedBefore-skip (suc n) stop i f h l p =
     ∙ usedBefore-skip n stop (suc i) f (omega arith) l (λ j a b. p j (omega arith) (omega arith))
     ∙ ap (λ k. usedBefore stop k f) e
 
-passed-by : (stop a r : ℕ) (f : List ℕ) → stop ≤ length f → AllBlank a r f → (a ≤ r) × (r ≤ max a stop) → Dec (a ≤ stop) → usedBefore stop a f ≡ usedBefore stop r f
-passed-by stop a r f l p h (yes q) =
-    let e : a + (r - a) ≡ r = omega arith in
-    usedBefore-skip (r - a) stop a f (omega arith) l (λ i x y. p i x (omega arith)) ∙ ap (λ k. usedBefore stop k f) e
-passed-by stop a r f l p h (no q) = let e : a ≡ r = omega arith in ap (λ k. usedBefore stop k f) e
+passed-by : (stop a r : ℕ) (f : List ℕ) → stop ≤ length f → Passed a stop r f → Dec (a ≤ stop) → usedBefore stop a f ≡ usedBefore stop r f
+passed-by stop a r f l p (yes q) =
+    let e : a + (r - a) ≡ r = omega (arith, p .forward) in
+    let inside : a + (r - a) ≤ stop = omega (arith, p .forward, p .in-range) in
+    usedBefore-skip (r - a) stop a f inside l (λ i x y. p .blank i x (omega arith)) ∙ ap (λ k. usedBefore stop k f) e
+passed-by stop a r f l p (no q) =
+    let e : a ≡ r = omega (arith, p .forward, p .in-range) in
+    ap (λ k. usedBefore stop k f) e
 
-pub usedBefore-passed : (stop a r : ℕ) (f : List ℕ) → stop ≤ length f → AllBlank a r f → (a ≤ r) × (r ≤ max a stop) → usedBefore stop a f ≡ usedBefore stop r f
-usedBefore-passed stop a r f l p h = passed-by stop a r f l p h (decLe a stop)
+pub usedBefore-passed : (stop a r : ℕ) (f : List ℕ) → stop ≤ length f → Passed a stop r f → usedBefore stop a f ≡ usedBefore stop r f
+usedBefore-passed stop a r f l p = passed-by stop a r f l p (decLe a stop)

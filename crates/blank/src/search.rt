@@ -1,22 +1,22 @@
 // The blank search.
 ghost use mathlib.Core.Path.{_≡_};
 ghost use mathlib.Core.Bool.{true};
-ghost use Prim.Native.Nat.{_+_, _≤_, max};
+ghost use Prim.Native.Nat.{_+_, _≤_};
 ghost use lib.ListN.{length};
-ghost use Rattle.blank.specs.Blank.{AllBlank, usedIn, usedOf};
+ghost use Rattle.blank.specs.Blank.{AllBlank, Passed, usedIn, usedOf};
 use memory::FlashAddress;
-
-// What the search finds: the first byte that is not FFh, or none.
-pub enum Used {
-    At(FlashAddress),
-    Nowhere,
-}
 
 // What an erased byte holds.
 const BLANK: u8 = 0xFF;
 
 // So many bytes are looked at together.
 const STRIDE: usize = 256;
+
+// What the search finds: the first byte that is not FFh, or none.
+pub enum Used {
+    At(FlashAddress),
+    Nowhere,
+}
 
 // Whether a stride is all FFh. No byte ends the loop early, so that the compiler can take many bytes at a time.
 fn stride_blank(flash: &[u8], from: usize) -> bool
@@ -38,8 +38,7 @@ fn stride_blank(flash: &[u8], from: usize) -> bool
 // Goes on from a place in whole strides for as long as they are all FFh and end before `stop`.
 fn past_blank(flash: &[u8], from: usize, stop: usize) -> usize
     requires { ⌜ (from ≤ 65535) × (stop ≤ 65536) × (stop ≤ length (now flash)) ⌝ }
-    ensures { λ r. ⌜ AllBlank from r (now (flash .entry)) ⌝ }
-    ensures { λ r. ⌜ (from ≤ r) × (r ≤ max from stop) ⌝ }
+    ensures { λ r. ⌜ Passed from stop r (now (flash .entry)) ⌝ }
 {
     let mut i = from;
     while i + STRIDE <= stop {

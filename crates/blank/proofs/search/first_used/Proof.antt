@@ -21,16 +21,26 @@ past-blank-requires : tie.Need-past-blank-requires Inv-loop μ-loop
 past-blank-requires c κs = (omega arith, omega arith, omega arith)
 
 loop-holds : tie.Need-loop-holds Inv-loop μ-loop
-loop-holds c = (omega arith, omega arith, usedBefore-passed _ _ _ _ (omega arith) (c .past-blank .ensures .0) (c .past-blank .ensures .1))
+loop-holds c = (omega arith, omega arith, usedBefore-passed _ _ _ _ (omega arith) (c .past-blank .ensures))
 
 returns : tie.Need-returns Inv-loop μ-loop
-returns c = sym (ap usedOf (usedIn-before _ _ _ _ (rw add-one at (c .before .before .before .before .before .least .ensures)) ∙ c .before .before .before .loop .inv .2 ∙ usedBefore-here _ _ _ (c .before .before .loop-test .taken) (c .before .before .before .loop .inv .0) (c .if1 .taken)))
+returns c =
+    let test = c .before .before in
+    let inv = test .before .loop .inv in
+    let cut = usedIn-before _ _ _ _ (test .before .before .before .least .ensures) in
+    sym (ap usedOf (cut ∙ inv .2 ∙ usedBefore-here _ _ _ (test .loop-test .taken) (inv .0) (c .if1 .taken)))
 
 loop-again : tie.Need-loop-again Inv-loop μ-loop
-loop-again c = (c .before .before .before .loop .inv .0, c .before .before .before .loop .inv .1, c .before .before .before .loop .inv .2 ∙ rw add-one (usedBefore-past _ _ _ (c .before .before .loop-test .taken) (c .before .before .before .loop .inv .0) (c .if1 .left)))
+loop-again c =
+    let test = c .before .before in
+    let inv = test .before .loop .inv in
+    (inv .0, inv .1, inv .2 ∙ rw add-one (usedBefore-past _ _ _ (test .loop-test .taken) (inv .0) (c .if1 .left)))
 
 returns-2 : tie.Need-returns-2 Inv-loop μ-loop
-returns-2 c = sym (ap usedOf (usedIn-before _ _ _ _ (rw add-one at (c .before .before .before .least .ensures)) ∙ c .before .loop .inv .2 ∙ usedBefore-end _ _ _ (c .loop-test .left)))
+returns-2 c =
+    let loop = c .before in
+    let cut = usedIn-before _ _ _ _ (loop .before .before .least .ensures) in
+    sym (ap usedOf (cut ∙ loop .loop .inv .2 ∙ usedBefore-end _ _ _ (c .loop-test .left)))
 
 pub first-used-spec : {M : Type 1} → statement M
 first-used-spec =
