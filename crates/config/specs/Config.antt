@@ -51,6 +51,11 @@ configByte i c =
 unfoldable pub byteRead : ℕ → Config → ByteRead
 byteRead i c = if readable i then Value (configByte i c) else Unknown
 
+-- the bytes that each answer gives: the one read, or none of an index that the table has not
+abbrev pub bytesRead : ByteRead → List ℕ
+bytesRead (Value v) = v ∷ []
+bytesRead Unknown = []
+
 -- "write configuration byte": the byte of that index, and the others as they were
 abbrev pub withByte : ℕ → ℕ → Config → Config
 withByte i v c = record {

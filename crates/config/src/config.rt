@@ -41,14 +41,11 @@ pub fn is_writable(index: u8) -> bool
 pub fn is_readable(index: u8) -> bool
     ensures { λ r. ⌜ r ≡ readable index ⌝ }
 {
-    if index <= 0x06 {
+    if is_writable(index) {
         return true;
     }
     match index {
-        0x30 => true,
-        0x31 => true,
-        0x60 => true,
-        0x61 => true,
+        0x30 | 0x31 | 0x60 | 0x61 => true,
         _ => false,
     }
 }

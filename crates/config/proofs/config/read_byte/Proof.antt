@@ -65,9 +65,15 @@ returns-11 c = simp (c .match .keys11)
 
 returns-12 : tie.Need-returns-12
 unfolding byteRead
-returns-12 c = let no = c .match .rest in
-    let k = past-6 (c .before .args .index) (no .0 .0 .0 .0 .0 .0 .0 .0 .0 .0 .1) (no .0 .0 .0 .0 .0 .0 .0 .0 .0 .1) (no .0 .0 .0 .0 .0 .0 .0 .0 .1) (no .0 .0 .0 .0 .0 .0 .0 .1) (no .0 .0 .0 .0 .0 .0 .1) (no .0 .0 .0 .0 .0 .1) (no .0 .0 .0 .0 .1) in
-    not-known (c .before .args .index) (c .before .args .config) k (no .0 .0 .0 .1) (no .0 .0 .1) (no .0 .1) (no .1)
+returns-12 c =
+    let args = c .before .args in
+    let fixed = c .match .rest in
+    let bytes = fixed .0 .0 .0 .0 in
+    let ports = bytes .0 .0 .0 in
+    let past = past-6 (args .index) (ports .0 .0 .0 .1) (ports .0 .0 .1) (ports .0 .1) (ports .1) (bytes .0 .0 .1) (bytes .0 .1) (bytes .1) in
+    not-known (args .index) (args .config) past (fixed .0 .0 .0 .1) (fixed .0 .0 .1) (fixed .0 .1) (fixed .1)
 
 pub read-byte-spec : {M : Type 1} → statement M
-read-byte-spec = tie.close (tie.spec returns returns-2 returns-3 returns-4 returns-5 returns-6 returns-7 returns-8 returns-9 returns-10 returns-11 returns-12)
+read-byte-spec =
+    tie.close
+    (tie.spec returns returns-2 returns-3 returns-4 returns-5 returns-6 returns-7 returns-8 returns-9 returns-10 returns-11 returns-12)
