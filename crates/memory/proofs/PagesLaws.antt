@@ -2,7 +2,7 @@
 -- were laid over it; `storeAll-pagesFrom` says it of the first n of them.
 -- Assumes nothing.
 use mathlib.Core.Path.{_≡_, refl, sym, ap, _∙_}
-use mathlib.Core.List.{List, _++_, append-assoc}
+use mathlib.Core.List.{List, [], _++_, append-assoc}
 use Prim.Native.Nat.{ℕ, zero, suc, _+_, _*_, _≤_, _<_}
 use native.Mathlib.Omega.{arith}
 use native.Mathlib.Nat.{add-zero, zero-add}
@@ -129,7 +129,9 @@ module _ (a e : ℕ) (d m : List ℕ) (pages : ℕ) (whole : length m ≡ pageSi
       let lg : length g ≡ length m = length-overlay a d m (omega arith) in
       let la : length (take a m) ≡ a = length-take-le a m (omega arith) in
       let before : take (pageSize * p) m ≡ take (pageSize * p) g
-      = sym (rw append-assoc (take-append-le (pageSize * p) (take a m) (d ++ drop (a + length d) m) (omega (arith, la)) ∙ take-take (pageSize * p) a m (omega arith))) in
+      = sym
+      (rw append-assoc
+      (take-append-le (pageSize * p) (take a m) (d ++ drop (a + length d) m) (omega (arith, la)) ∙ take-take (pageSize * p) a m (omega arith))) in
       let beyond : drop (pageSize * (p + n)) m ≡ drop (pageSize * (p + n)) g
       = sym (drop-past (take a m ++ d) m (a + length d) (pageSize * (p + n)) (length-front a d m range-fits) (omega arith)) in
       storeAll-pagesFrom n g m p (omega arith) (omega arith) before ∙ rw beyond (take-append-drop (pageSize * (p + n)) g)
@@ -172,8 +174,10 @@ pub storeAll-chipStores : (m : List ℕ) → length m ≡ flashSize → storeAll
 unfolding chipStores
 storeAll-chipStores m h =
     let z : 0 + flashPages ≡ flashPages = zero-add flashPages in
+    let past : drop flashSize m ≡ [] = drop-of-length-le m {i = flashSize} (omega arith) in
+    let past-blank : drop flashSize blankFlash ≡ [] = drop-of-length-le blankFlash {i = flashSize} (omega (arith, length-blankFlash)) in
     storeAll-pagesFrom flashPages blankFlash m 0 (h ∙ sym length-blankFlash) (omega (arith, length-blankFlash)) refl
-    ∙ rw (drop-of-length-le m {i = flashSize} (omega arith), ← drop-of-length-le blankFlash {i = flashSize} (omega (arith, length-blankFlash))) (take-append-drop flashSize blankFlash)
+    ∙ rw (past, ← past-blank) (take-append-drop flashSize blankFlash)
 
 -- ---- how many pages are stored
 

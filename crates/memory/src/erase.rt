@@ -5,6 +5,7 @@ ghost use lib.ListN.{length, replicate};
 ghost use Rattle.words.specs.Words.{overlay};
 ghost use Rattle.memory.specs.Pages.{storeAll};
 ghost use Rattle.memory.specs.Erase.{blockErase, chipErase};
+use crate::FLASH_PAGES;
 use crate::FLASH_SIZE;
 use crate::PAGE_SIZE;
 use crate::address::Block;
@@ -51,5 +52,5 @@ pub fn erase_chip(flash: &mut [u8]) -> usize
     if flash.len() != FLASH_SIZE {
         return 0;
     }
-    erase_pages(flash, Page(0), 256)
+    erase_pages(flash, Page(0), FLASH_PAGES)
 }

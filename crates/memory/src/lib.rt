@@ -21,6 +21,8 @@ pub use reading::read;
 // "Flash: 32,768 bytes, 0000h to 7FFFh, in 256 pages of 128. EEPROM: 1,024 bytes".
 pub const FLASH_SIZE: usize = 32768;
 
+pub const FLASH_PAGES: usize = 256;
+
 pub const PAGE_SIZE: usize = 128;
 
 pub const EEPROM_SIZE: usize = 1024;

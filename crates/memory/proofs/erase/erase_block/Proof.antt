@@ -30,13 +30,37 @@ returns : tie.Need-returns
 returns c = not-erased _ _ (c .if1 .taken)
 
 returns-2 : tie.Need-returns-2
-returns-2 c = erased _ Low _ _ _ (c .before .before .before .before .enum-told .given .1) (c .before .before .before .before .before .before .if1 .left) (c .before .before .erase-pages .ensures .0) (c .before .before .erase-pages .ensures .1)
+returns-2 c =
+    let told = c .before .before .before .before in
+    let pages = c .before .before .erase-pages .ensures in
+    erased _ Low _ _ _ (told .enum-told .given .1) (told .before .before .if1 .left) (pages .0) (pages .1)
 
 returns-3 : tie.Need-returns-3
-returns-3 c = erased _ Middle _ _ _ (c .before .before .before .before .enum-told2 .given .1) (c .before .before .before .before .before .before .if1 .left) (c .before .before .erase-pages2 .ensures .0) (c .before .before .erase-pages2 .ensures .1)
+returns-3 c =
+    let told = c .before .before .before .before in
+    let pages = c .before .before .erase-pages2 .ensures in
+    erased _ Middle _ _ _ (told .enum-told2 .given .1) (told .before .before .if1 .left) (pages .0) (pages .1)
 
 returns-4 : tie.Need-returns-4
-returns-4 c = erased _ High _ _ _ (c .before .before .before .before .enum-told3 .given .1) (c .before .before .before .before .before .before .if1 .left) (c .before .before .erase-pages3 .ensures .0) (c .before .before .erase-pages3 .ensures .1)
+returns-4 c =
+    let told = c .before .before .before .before in
+    let pages = c .before .before .erase-pages3 .ensures in
+    erased _ High _ _ _ (told .enum-told3 .given .1) (told .before .before .if1 .left) (pages .0) (pages .1)
 
 pub erase-block-spec : {M : Type 1} → statement M
-erase-block-spec = tie.close (tie.spec returns (λ c. search needs) (λ c κs. search needs) (λ c. search needs) (λ c κs. search needs) (λ c. search needs) (λ c κs. search needs) (λ c. search needs) returns-2 (λ c. search needs) returns-3 (λ c. search needs) returns-4)
+erase-block-spec =
+    tie.close
+    (tie.spec
+    returns
+    (λ c. search needs)
+    (λ c κs. search needs)
+    (λ c. search needs)
+    (λ c κs. search needs)
+    (λ c. search needs)
+    (λ c κs. search needs)
+    (λ c. search needs)
+    returns-2
+    (λ c. search needs)
+    returns-3
+    (λ c. search needs)
+    returns-4)

@@ -32,7 +32,9 @@ returns : tie.Need-returns
 returns c = not-erased _ (c .if1 .taken)
 
 returns-2 : tie.Need-returns-2
-returns-2 c = erased _ _ _ (c .before .before .before .before .if1 .left) (c .before .before .erase-pages .ensures .0) (c .before .before .erase-pages .ensures .1)
+returns-2 c =
+    let pages = c .before .before .erase-pages .ensures in
+    erased _ _ _ (c .before .before .before .before .if1 .left) (pages .0) (pages .1)
 
 pub erase-chip-spec : {M : Type 1} → statement M
 erase-chip-spec = tie.close (tie.spec returns (λ c κs. search needs) (λ c. search needs) returns-2)

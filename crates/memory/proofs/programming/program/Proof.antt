@@ -21,10 +21,22 @@ module _ (range : Range) (d f m : List ℕ) where
   of-eeprom a e m′ q s = rw q (refl, (refl, s))
 
 returns : tie.Need-returns
-returns c = of-flash _ _ _ _ _ _ _ _ (c .before .before .before .before .before .range .given .1) (c .before .before .program-flash .ensures .0) (c .before .before .program-flash .ensures .1)
+returns c =
+    let stored = c .before .before .program-flash .ensures in
+    of-flash _ _ _ _ _ _ _ _ (c .before .before .before .before .before .range .given .1) (stored .0) (stored .1)
 
 returns-2 : tie.Need-returns-2
 returns-2 c = of-eeprom _ _ _ _ _ _ _ (c .before .before .before .before .before .range2 .given .1) (c .before .before .program-eeprom .ensures)
 
 pub program-spec : {M : Type 1} → statement M
-program-spec = tie.close (tie.spec (λ c. search needs) (λ c κs. search needs) (λ c. search needs) (λ c κs. search needs) (λ c. search needs) returns (λ c. search needs) returns-2)
+program-spec =
+    tie.close
+    (tie.spec
+    (λ c. search needs)
+    (λ c κs. search needs)
+    (λ c. search needs)
+    (λ c κs. search needs)
+    (λ c. search needs)
+    returns
+    (λ c. search needs)
+    returns-2)
