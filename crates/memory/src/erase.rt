@@ -3,6 +3,7 @@ ghost use mathlib.Core.Path.{_≡_};
 ghost use Prim.Native.Nat.{_+_, _*_, _≤_};
 ghost use lib.ListN.{length, replicate};
 ghost use Rattle.words.specs.Words.{overlay};
+ghost use Rattle.memory.specs.Memory.{pageSize};
 ghost use Rattle.memory.specs.Pages.{storeAll};
 ghost use Rattle.memory.specs.Erase.{blockErase, chipErase};
 use crate::FLASH_PAGES;
@@ -15,9 +16,9 @@ use crate::page::store_whole;
 
 // Stores pages of FFh, so many from a first one on, and answers how many those are.
 fn erase_pages(flash: &mut [u8], first: Page, count: usize) -> usize
-    requires { ⌜ (128 * (first .0 + count) ≤ length (now flash)) × (length (now flash) ≤ 65536) ⌝ }
+    requires { ⌜ (pageSize * (first .0 + count) ≤ length (now flash)) × (length (now flash) ≤ 65536) ⌝ }
     ensures { λ r. ⌜ r ≡ count ⌝ }
-    ensures { λ r. ⌜ now (flash .exit) ≡ overlay (128 * (first .0)) (replicate (128 * count) 0xFF) (now (flash .entry)) ⌝ }
+    ensures { λ r. ⌜ now (flash .exit) ≡ overlay (pageSize * (first .0)) (replicate (pageSize * count) 0xFF) (now (flash .entry)) ⌝ }
 {
     let blank = [0xFFu8; PAGE_SIZE];
     let mut pages = 0;

@@ -3,6 +3,7 @@ ghost use mathlib.Core.Path.{_≡_};
 ghost use Prim.Native.Nat.{_+_, _-_, _*_, _%_, _≤_, _<_, min};
 ghost use lib.ListN.{length, take, drop};
 ghost use Rattle.words.specs.Words.{overlay};
+ghost use Rattle.memory.specs.Memory.{pageSize};
 ghost use Rattle.memory.specs.Pages.{storeAll, pagesMet};
 ghost use Rattle.memory.specs.Program.{programmable, flashStores, eepromAfter, programmedPages, programmedFlash, programmedEeprom};
 use crate::EEPROM_SIZE;
@@ -18,9 +19,10 @@ use crate::page::store_whole;
 
 // Stores a part of a page, and answers how many pages were stored: 1, or 0 where there are no bytes.
 fn store_part(flash: &mut [u8], page: Page, at: usize, bytes: &[u8]) -> usize
-    requires { ⌜ (at + length (now bytes) ≤ 128) × (128 * (page .0) + (at + length (now bytes)) ≤ length (now flash)) × (length (now flash) % 128 ≡ 0) ⌝ }
+    requires { ⌜ (at + length (now bytes) ≤ pageSize) × (pageSize * (page .0) + (at + length (now bytes)) ≤ length (now flash)) ⌝ }
+    requires { ⌜ length (now flash) % pageSize ≡ 0 ⌝ }
     ensures { λ r. ⌜ r ≡ min 1 (length (now (bytes .entry))) ⌝ }
-    ensures { λ r. ⌜ now (flash .exit) ≡ overlay (128 * (page .0) + at) (now (bytes .entry)) (now (flash .entry)) ⌝ }
+    ensures { λ r. ⌜ now (flash .exit) ≡ overlay (pageSize * (page .0) + at) (now (bytes .entry)) (now (flash .entry)) ⌝ }
 {
     if bytes.len() == 0 {
         return 0;
@@ -30,9 +32,9 @@ fn store_part(flash: &mut [u8], page: Page, at: usize, bytes: &[u8]) -> usize
 
 // Stores whole pages, so many from a first one on, with the bytes from an index of theirs on, and answers how many pages those are.
 fn store_pages(flash: &mut [u8], first: Page, count: usize, bytes: &[u8], from: usize) -> usize
-    requires { ⌜ (128 * (first .0 + count) ≤ length (now flash)) × (length (now flash) ≤ 65536) × (from + 128 * count ≤ length (now bytes)) ⌝ }
+    requires { ⌜ (pageSize * (first .0 + count) ≤ length (now flash)) × (length (now flash) ≤ 65536) × (from + pageSize * count ≤ length (now bytes)) ⌝ }
     ensures { λ r. ⌜ r ≡ count ⌝ }
-    ensures { λ r. ⌜ now (flash .exit) ≡ overlay (128 * (first .0)) (take (128 * count) (drop from (now (bytes .entry)))) (now (flash .entry)) ⌝ }
+    ensures { λ r. ⌜ now (flash .exit) ≡ overlay (pageSize * (first .0)) (take (pageSize * count) (drop from (now (bytes .entry)))) (now (flash .entry)) ⌝ }
 {
     let mut pages = 0;
     while pages < count {
@@ -47,10 +49,10 @@ fn store_pages(flash: &mut [u8], first: Page, count: usize, bytes: &[u8], from: 
 }
 
 // Stores each page that the bytes meet, from an address on, and answers how many those are: a part of the first page, whole pages
-// and a part of the last. Each of the three has its own loop or none, so that the compiler knows how long a whole page is.
+// and a part of the last. The whole pages have a loop of their own, so that the compiler knows how long each of their stores is.
 fn program_pages(flash: &mut [u8], start: FlashAddress, bytes: &[u8]) -> usize
     requires { ⌜ (0 < length (now bytes)) × (start .0 + length (now bytes) ≤ length (now flash)) ⌝ }
-    requires { ⌜ (length (now flash) % 128 ≡ 0) × (length (now flash) ≤ 65536) ⌝ }
+    requires { ⌜ (length (now flash) % pageSize ≡ 0) × (length (now flash) ≤ 65536) ⌝ }
     ensures { λ r. ⌜ r ≡ pagesMet (start .0) (start .0 + length (now (bytes .entry)) - 1) ⌝ }
     ensures { λ r. ⌜ now (flash .exit) ≡ overlay (start .0) (now (bytes .entry)) (now (flash .entry)) ⌝ }
 {
