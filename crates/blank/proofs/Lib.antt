@@ -1,0 +1,3 @@
+-- The laws of the blank search.
+pub mod BlankLaws
+pub mod OneAnswer

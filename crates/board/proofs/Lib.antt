@@ -1,6 +1,0 @@
--- The laws of the board's definitions. Each file has the laws of the file of specs/ that it is named after.
-pub mod PagesLaws
-pub mod ProgramLaws
-pub mod BlankLaws
-pub mod ConfigLaws
-pub mod OneAnswer

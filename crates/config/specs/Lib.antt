@@ -1,0 +1,3 @@
+-- The definitions of the configuration, in the order in which they are read.
+pub mod Config
+pub mod Level

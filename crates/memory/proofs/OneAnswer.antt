@@ -1,0 +1,30 @@
+-- One permitted answer: two answers, with the lent memories after them, that meet the contract of a public function are equal.
+-- `F.Post` is the contract of F as its code states it.
+-- Assumes nothing.
+use mathlib.Core.Path.{_≡_}
+use Rattle.words.proofs.OneAnswer.{one}
+use Rattle.memory.proofs.page.store_page.Reads as store-page
+use Rattle.memory.proofs.programming.program.Reads as program
+use Rattle.memory.proofs.erase.erase_block.Reads as erase-block
+use Rattle.memory.proofs.erase.erase_chip.Reads as erase-chip
+use Rattle.memory.proofs.reading.read.Reads as read
+
+pub of-store-page : (κs : _) (a : _) (r r′ : _) (s s′ : _) → store-page.Post κs a r s → store-page.Post κs a r′ s′
+    → (r ≡ r′) × (s .0 .now ≡ s′ .0 .now)
+of-store-page κs a r r′ s s′ p q = (one (p .0) (q .0), one (p .1) (q .1))
+
+pub of-program : (κs : _) (a : _) (r r′ : _) (s s′ : _) → program.Post κs a r s → program.Post κs a r′ s′
+    → (r ≡ r′) × (s .1 .1 .0 .now ≡ s′ .1 .1 .0 .now) × (s .1 .1 .1 .0 .now ≡ s′ .1 .1 .1 .0 .now)
+of-program κs a r r′ s s′ p q = (one (p .0) (q .0), one (p .1 .0) (q .1 .0), one (p .1 .1) (q .1 .1))
+
+pub of-erase-block : (κs : _) (a : _) (r r′ : _) (s s′ : _) → erase-block.Post κs a r s → erase-block.Post κs a r′ s′
+    → (r ≡ r′) × (s .0 .now ≡ s′ .0 .now)
+of-erase-block κs a r r′ s s′ p q = (one (p .0) (q .0), one (p .1) (q .1))
+
+pub of-erase-chip : (κs : _) (a : _) (r r′ : _) (s s′ : _) → erase-chip.Post κs a r s → erase-chip.Post κs a r′ s′
+    → (r ≡ r′) × (s .0 .now ≡ s′ .0 .now)
+of-erase-chip κs a r r′ s s′ p q = (one (p .0) (q .0), one (p .1) (q .1))
+
+pub of-read : (κs : _) (a : _) (r r′ : _) (s s′ : _) → read.Post κs a r s → read.Post κs a r′ s′
+    → (r ≡ r′) × (s .1 .1 .1 .0 .now ≡ s′ .1 .1 .1 .0 .now)
+of-read κs a r r′ s s′ p q = (one (p .0) (q .0), one (p .1) (q .1))

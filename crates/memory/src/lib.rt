@@ -1,0 +1,28 @@
+// The two memories of document 01's board: reading and programming ranges of both, and the erases and the page store of flash.
+//
+// No public function has a `requires`: each says what it answers for every input.
+mod address;
+mod erase;
+mod page;
+mod programming;
+mod reading;
+
+pub use address::Block;
+pub use address::EepromAddress;
+pub use address::FlashAddress;
+pub use address::Page;
+pub use address::Range;
+pub use erase::erase_block;
+pub use erase::erase_chip;
+pub use page::store_page;
+pub use programming::program;
+pub use reading::read;
+
+// "Flash: 32,768 bytes, 0000h to 7FFFh, in 256 pages of 128. EEPROM: 1,024 bytes".
+pub const FLASH_SIZE: usize = 32768;
+
+pub const FLASH_PAGES: usize = 256;
+
+pub const PAGE_SIZE: usize = 128;
+
+pub const EEPROM_SIZE: usize = 1024;
