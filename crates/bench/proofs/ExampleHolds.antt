@@ -6,8 +6,8 @@ use Rattle.command.specs.Form.{form}
 use Rattle.job.specs.Field.{tagRefusal}
 use Rattle.job.specs.Verdict.{andThen, fieldVerdict, fieldsVerdict, verdict}
 use Rattle.job.specs.Requests.{requestsIn, requestsOf}
-use Rattle.job.specs.Text.{decimal}
-use Rattle.job.specs.Line.{requestLine, jobLine}
+use Rattle.lines.specs.Text.{decimal}
+use Rattle.lines.specs.Line.{requestLine, jobLine}
 use Rattle.loader.specs.Commands.{perform, obey}
 use Rattle.loader.specs.Requests.{requestOf, dnload, send, upload, respond}
 use Rattle.loader.specs.Refusals.{refusal}

@@ -19,12 +19,12 @@ use Rattle.job.specs.Walk.{walk, firstMet}
 use Rattle.job.specs.declared.walk.Met.the-variants.{Request, NoMore}
 use Rattle.job.proofs.VerdictLaws.{file-accepted}
 use Rattle.job.proofs.WalkLaws.{steps, no-more, walk-job}
-use Rattle.job.specs.Line.{requestLine, jobLine, refusedLine, mostLine, mostJobLine}
-use Rattle.job.specs.Room.{put, Stands}
-use Rattle.job.specs.declared.line.Put.{Put}
-use Rattle.job.specs.declared.line.Word.{Word}
-use Rattle.job.proofs.LineLaws.{requestLine-le}
-use Rattle.job.proofs.RoomLaws.{none-stands, joined, laid-stands}
+use Rattle.lines.specs.Line.{requestLine, jobLine, refusedLine, mostLine, mostJobLine}
+use Rattle.lines.specs.Room.{put, Stands}
+use Rattle.lines.specs.declared.line.Put.{Put}
+use Rattle.lines.specs.declared.line.Word.{Word}
+use Rattle.lines.proofs.LineLaws.{requestLine-le}
+use Rattle.lines.proofs.RoomLaws.{none-stands, joined, laid-stands}
 use Rattle.loader.specs.Session.{idle}
 use Rattle.loader.specs.Result.{Board, board, Result, next}
 use Rattle.loader.specs.declared.answer.Answer.{Answer}

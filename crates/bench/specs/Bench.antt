@@ -4,12 +4,12 @@ use mathlib.Core.List.{List, [], _∷_, _++_}
 use Prim.Native.Nat.{ℕ, suc}
 use Rattle.job.specs.Verdict.{verdict}
 use Rattle.job.specs.Requests.{Span, requestsOf, requestCount, setupOf, dataOf}
-use Rattle.job.specs.Text.{ascii}
-use Rattle.job.specs.Line.{requestLine, jobLine, refusedLine}
+use Rattle.lines.specs.Text.{ascii}
+use Rattle.lines.specs.Line.{requestLine, jobLine, refusedLine}
 use Rattle.job.specs.declared.verdict.Verdict.{Verdict}
 use Rattle.job.specs.declared.verdict.Verdict.the-variants.{Accepted, Refused as Rejected}
-use Rattle.job.specs.declared.line.Word.{Word}
-use Rattle.job.specs.declared.line.Word.the-variants as W
+use Rattle.lines.specs.declared.line.Word.{Word}
+use Rattle.lines.specs.declared.line.Word.the-variants as W
 use Rattle.loader.specs.Result.{Board, Result, next, pages}
 use Rattle.loader.specs.Refusals.{replySize}
 use Rattle.loader.specs.Step.{ask, deliveredBoard}

@@ -7,10 +7,10 @@ use Rattle.job.specs.Field.{headSize, setupSize}
 use Rattle.job.specs.Verdict.{mostFile}
 use Rattle.job.specs.Requests.{HaveSetups}
 use Rattle.job.specs.Walk.{walk}
-use Rattle.job.specs.Line.{requestLine, mostLine, mostJobLine}
-use Rattle.job.specs.Room.{Stands}
-use Rattle.job.specs.declared.line.Put.{Put}
-use Rattle.job.specs.declared.line.Put.the-variants.{Upto, Unwritten}
+use Rattle.lines.specs.Line.{requestLine, mostLine, mostJobLine}
+use Rattle.lines.specs.Room.{Stands}
+use Rattle.lines.specs.declared.line.Put.{Put}
+use Rattle.lines.specs.declared.line.Put.the-variants.{Upto, Unwritten}
 use Rattle.loader.specs.Result.{Board, board, Result, next}
 use Rattle.loader.specs.declared.answer.Answer.{Answer}
 use Rattle.loader.specs.Refusals.{replySize}

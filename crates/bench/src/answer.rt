@@ -7,10 +7,10 @@ ghost use Rattle.board.specs.Memory.{eepromSize, blankFlash};
 ghost use Rattle.job.specs.Requests.{requestsOf, requestCount};
 ghost use Rattle.job.specs.Verdict.{verdict};
 ghost use Rattle.job.specs.declared.verdict.Verdict.the-variants.{Accepted};
-ghost use Rattle.job.specs.Line.{jobLine};
+ghost use Rattle.lines.specs.Line.{jobLine};
 ghost use Rattle.loader.specs.Refusals.{replySize};
 ghost use Rattle.loader.specs.Step.{deliveredBoard};
-ghost use Rattle.job.specs.Room.{Stands};
+ghost use Rattle.lines.specs.Room.{Stands};
 ghost use Rattle.bench.specs.Bench.{lines, bench};
 ghost use Rattle.bench.specs.Run.{mostOutput};
 use crate::run::end_of;
@@ -20,8 +20,8 @@ use board::FLASH_SIZE;
 use job::Verdict;
 use job::check_job;
 use job::count_requests;
-use job::job_line;
-use job::refused_line;
+use lines::job_line;
+use lines::refused_line;
 
 const REPLY_SIZE: usize = 1024;
 

@@ -2,8 +2,8 @@
 -- Assumes nothing.
 use native.Mathlib.Omega.{arith}
 use borrow.Author.Needs.{needs}
-use Rattle.job.specs.Line.{mostJobLine}
-use Rattle.job.proofs.LineLaws.{jobLine-le}
+use Rattle.lines.specs.Line.{mostJobLine}
+use Rattle.lines.proofs.LineLaws.{jobLine-le}
 use Rattle.bench.proofs.RunLaws.{front-stands, ready, job-stands}
 use Rattle.bench.proofs.answer.run_accepted.Statement.{statement}
 use Rattle.bench.proofs.answer.run_accepted.Tie as tie

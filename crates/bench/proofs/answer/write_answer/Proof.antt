@@ -3,8 +3,8 @@
 use mathlib.Core.Path.{sym, _∙_}
 use native.Mathlib.Omega.{arith}
 use borrow.Author.Needs.{needs}
-use Rattle.job.specs.Line.{mostRefusedLine}
-use Rattle.job.proofs.LineLaws.{refusedLine-le}
+use Rattle.lines.specs.Line.{mostRefusedLine}
+use Rattle.lines.proofs.LineLaws.{refusedLine-le}
 use Rattle.bench.proofs.RunLaws.{front-stands, accepted-stands, refused-stands}
 use Rattle.bench.proofs.answer.write_answer.Statement.{statement}
 use Rattle.bench.proofs.answer.write_answer.Tie as tie
