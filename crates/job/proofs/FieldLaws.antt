@@ -45,6 +45,10 @@ pub record Inside (file : List ℕ) (at end size : ℕ) : Type 0 where
   pub value-fits : valueAt at + size ≤ end
 
 module _ (file : List ℕ) (at end : ℕ) where
+  -- no bytes left
+  pub end-beyond : end ≤ at → beyond file at end ≡ true
+  end-beyond h = simp (lt-ltb end (valueAt at) (omega arith))
+
   pub reach-short : end < valueAt at → Beyond ≡ reachOf file at end
   unfolding reachOf
   reach-short h = simp (lt-ltb _ _ h)

@@ -10,7 +10,7 @@ use borrow.Author.Tests.{ne-eqb}
 use Rattle.job.specs.Field.{tagAt, lengthAt, valueAt, endAt, requestTag, groupTag, beyond}
 use Rattle.job.specs.Requests.{span, requestsIn}
 use Rattle.job.specs.Read.{Counts}
-use Rattle.job.proofs.FieldLaws.{Inside}
+use Rattle.job.proofs.FieldLaws.{end-beyond, Inside}
 
 pub none-beyond : (n : ℕ) (file : List ℕ) (at end : ℕ) → beyond file at end ≡ true → requestsIn n file at end ≡ []
 unfolding requestsIn
@@ -29,6 +29,10 @@ module _ (n : ℕ) (file : List ℕ) (at end : ℕ) (b : beyond file at end ≡ 
   pub other-first : (tagAt file at ≡ requestTag → ⊥) → (tagAt file at ≡ groupTag → ⊥) → requestsIn (suc n) file at end ≡ requestsIn n file (endAt file at) end
   unfolding requestsIn
   other-first p q = simp (b, ne-eqb _ _ p, ne-eqb _ _ q)
+
+-- nothing stands at the end of what encloses it
+pub count-end : (file : List ℕ) (end : ℕ) → Counts 0 file end end
+count-end file end n m = rw (none-beyond n file end end (end-beyond file end end (omega arith)))
 
 pub count-beyond : (file : List ℕ) (at end : ℕ) → beyond file at end ≡ true → Counts 0 file at end
 count-beyond file at end b n m = rw (none-beyond n file at end b)

@@ -7,18 +7,14 @@ use mathlib.Core.List.{List, [], _∷_, _++_, append-assoc, append-nil}
 use Prim.Native.Nat.{ℕ, zero, suc, _+_, _≤_, _<_}
 use native.Mathlib.Omega.{arith}
 use lib.ListN.{length}
-use borrow.Author.Tests.{lt-ltb, ne-eqb}
+use borrow.Author.Tests.{le-ltb, ne-eqb}
 use Rattle.job.specs.Field.{tagAt, lengthAt, valueAt, endAt, requestTag, groupTag, beyond}
 use Rattle.job.specs.Verdict.{Accepted, fieldsVerdict, verdict}
 use Rattle.job.specs.Requests.{Span, span, requestsIn, requestsOf, HaveSetups}
 use Rattle.job.specs.Walk.{Request, NoMore, walkIn, walk, firstMet, InOrder}
-use Rattle.job.proofs.FieldLaws.{Inside, which, lt-or-ge, eq-or-ne, fits, not-beyond-later, field-group, request-size}
+use Rattle.job.proofs.FieldLaws.{Inside, which, lt-or-ge, eq-or-ne, end-beyond, fits, not-beyond-later, field-group, request-size}
 use Rattle.job.proofs.VerdictLaws.{good, fields-more, both-accepted, file-accepted}
 use Rattle.job.proofs.RequestsLaws.{none-beyond, request-first, group-first, other-first}
-
--- fewer than three bytes left
-pub end-beyond : (file : List ℕ) (at end : ℕ) → end ≤ at → beyond file at end ≡ true
-end-beyond file at end h = simp (lt-ltb end (valueAt at) (omega arith))
 
 in-none : (n : ℕ) (file : List ℕ) (at : ℕ) → beyond file at (length file) ≡ true → walkIn n file at ≡ []
 unfolding walkIn
@@ -178,7 +174,9 @@ meets (suc n) file at end depth h k l g =
 pub walk-job : (file : List ℕ) → verdict file ≡ Accepted → (walk file 0 ≡ requestsOf file) × HaveSetups (requestsOf file)
 unfolding requestsOf
 walk-job file g =
-    let m = meets (length file) file 0 (length file) 0 (omega arith) (omega arith) (omega arith) (file-accepted file g .1) in
+    let a = file-accepted file g in
+    let m = meets (length file) file 0 (length file) 0 (omega arith) (omega arith) (omega arith) (a .1) in
+    rw (le-ltb _ _ (a .0))
     (m .in-order ∙ rw (walk-none file (length file) (end-beyond file (length file) (length file) (omega arith)), append-nil), m .have-setups)
 
 pub in-order : InOrder

@@ -1,10 +1,11 @@
 -- The requests of a job. Assumes nothing: these are definitions.
 use mathlib.Core.List.{List, [], _∷_, _++_}
 use Prim.Native.Nat.{ℕ, zero, suc, _≤_}
-use lib.Dec.{eqb}
+use lib.Dec.{eqb, ltb}
 use lib.ListN.{length, take, drop}
 use Rattle.words.specs.Words.{if_then_else_}
 use Rattle.job.specs.Field.{tagAt, lengthAt, valueAt, endAt, beyond, requestTag, groupTag, setupSize}
+use Rattle.job.specs.Verdict.{mostFile}
 
 -- where a request's value lies in the file
 pub record Span : Type 0 where
@@ -27,9 +28,9 @@ requestsIn (suc n) file at end =
     rest in
     if beyond file at end then [] else field
 
--- the requests of a file
+-- the requests of a file; "16 file too long, first of all": a file that is too long holds none
 unfoldable pub requestsOf : List ℕ → List Span
-requestsOf file = requestsIn (length file) file 0 (length file)
+requestsOf file = if ltb mostFile (length file) then [] else requestsIn (length file) file 0 (length file)
 
 -- "how many requests a job holds, through all its groups"
 abbrev pub requestCount : List ℕ → ℕ

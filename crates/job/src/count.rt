@@ -9,6 +9,7 @@ use crate::field::HEAD_SIZE;
 use crate::field::REQUEST;
 use crate::field::Reach;
 use crate::field::reach_of;
+use crate::verdict::MOST_FILE;
 
 // The requests of the fields from a place up to `end`.
 fn count_fields(file: &[u8], at: usize, end: usize) -> usize
@@ -21,7 +22,11 @@ fn count_fields(file: &[u8], at: usize, end: usize) -> usize
     };
     let value = at + HEAD_SIZE;
     let next = value + size;
-    let rest = count_fields(file, next, end);
+    let rest = if next == end {
+        0
+    } else {
+        count_fields(file, next, end)
+    };
     let tag = file[at];
     match tag {
         REQUEST => 1 + rest,
@@ -30,9 +35,13 @@ fn count_fields(file: &[u8], at: usize, end: usize) -> usize
     }
 }
 
-// The requests of a file of any bytes; a field that goes beyond what encloses it ends them there.
+// The requests of a file of any bytes; a field that goes beyond what encloses it ends them there. A file that is too long is refused
+// first of all and holds none, so that the calls inside each other are no more than an accepted file can have.
 pub fn count_requests(file: &[u8]) -> usize
     ensures { λ r. ⌜ r ≡ requestCount (now (file .entry)) ⌝ }
 {
+    if file.len() > MOST_FILE {
+        return 0;
+    }
     count_fields(file, 0, file.len())
 }

@@ -7,8 +7,8 @@ use native.Mathlib.Omega.{arith}
 use lib.ListN.{length}
 use borrow.Author.Needs.{needs}
 use Rattle.job.specs.Walk.{walk}
-use Rattle.job.proofs.FieldLaws.{went-beyond, within}
-use Rattle.job.proofs.WalkLaws.{end-beyond, turn-none, turn-request, turn-group, turn-other}
+use Rattle.job.proofs.FieldLaws.{end-beyond, went-beyond, within}
+use Rattle.job.proofs.WalkLaws.{turn-none, turn-request, turn-group, turn-other}
 use Rattle.job.proofs.walk.next_request.Statement.{statement}
 use Rattle.job.proofs.walk.next_request.Tie as tie
 
