@@ -9,7 +9,7 @@ use native.Mathlib.Omega.{arith}
 use lib.Dec.{ltb, eqb}
 use borrow.Author.Tests.{le-ltb, lt-ltb, le-leb, eq-eqb, ne-eqb, eqb-true, eqb-false, ltb-true, ltb-false}
 use Rattle.words.specs.Words.{if_then_else_}
-use Rattle.job.specs.Field.{tagAt, lengthAt, valueAt, endAt, requestTag, groupTag, beyond, tagRefusal}
+use Rattle.job.specs.Field.{tagAt, lengthAt, valueAt, endAt, requestTag, groupTag, byTag, beyond, tagRefusal}
 use Rattle.job.specs.Verdict.{Verdict, Accepted, Refused, fieldVerdict}
 use Rattle.job.specs.Read.{reachOf}
 use Rattle.job.specs.declared.field.Reach.{Reach}
@@ -26,6 +26,18 @@ lt-or-ge a b = ⊎-elim (λ e. inl (ltb-true a b e)) (λ e. inr (ltb-false a b e
 
 pub eq-or-ne : (a b : ℕ) → (a ≡ b) ⊎ (a ≡ b → ⊥)
 eq-or-ne a b = ⊎-elim (λ e. inl (eqb-true a b e)) (λ e. inr (eqb-false a b e)) (which (eqb a b))
+
+-- ---- what a tag chooses
+
+module _ {A : Type 0} (tag : ℕ) (request group other : A) where
+  pub by-request : tag ≡ requestTag → byTag tag request group other ≡ request
+  by-request t = simp t
+
+  pub by-group : tag ≡ groupTag → byTag tag request group other ≡ group
+  by-group t = simp t
+
+  pub by-other : (tag ≡ requestTag → ⊥) → (tag ≡ groupTag → ⊥) → byTag tag request group other ≡ other
+  by-other p q = simp (ne-eqb _ _ p, ne-eqb _ _ q)
 
 -- ---- how far a field reaches
 

@@ -34,6 +34,10 @@ groupTag = 0x02
 abbrev pub noteTag : ℕ
 noteTag = 0x03
 
+-- what a tag chooses: the first for a request, the second for a group, the third for any other field
+abbrev pub byTag : {A : Type 0} → ℕ → A → A → A → A
+byTag tag request group other = if eqb tag requestTag then request else if eqb tag groupTag then group else other
+
 -- "8 setup bytes then data", "a note of up to 64 bytes", "four deep at most"
 abbrev pub setupSize : ℕ
 setupSize = 8

@@ -1,15 +1,14 @@
 -- `job::count::count_fields` meets its contract: each arm is a line of `requestsIn`, at every bound that is large enough. It calls
 -- itself on the value of a group and on the rest; the bytes left fall.
 -- Assumes nothing.
-use mathlib.Core.Path.{sym}
 use mathlib.Core.Logic.{⊎-elim}
 use Prim.Native.Nat.{ℕ, _+_, _-_, _≤_, _<_}
 use native.Mathlib.Omega.{arith}
 use borrow.Author.Needs.{needs}
-use Rattle.job.specs.Field.{valueAt}
-use Rattle.job.specs.Read.{Counts}
+use Rattle.job.specs.Field.{headSize}
+use Rattle.job.specs.Read.{Holds}
 use Rattle.job.proofs.FieldLaws.{Inside, went-beyond, within}
-use Rattle.job.proofs.RequestsLaws.{count-end, count-beyond, count-request, count-group, count-other}
+use Rattle.job.proofs.RequestsLaws.{count-beyond, holds-request, holds-group, holds-other, count-field, count-last}
 use borrow.Fn.Kinds.{In}
 use borrow.Fn.PlainCycle.{Measures, is, falls, and}
 use Rattle.job.proofs.count.count_fields.Reads as count-fields
@@ -44,16 +43,22 @@ module _ (t : ℕ) where
       Inside (a .file .now) (a .at) (a .end) (c .before .size .given .0 .0)
   inside c = within _ _ _ _ _ (c .before .before .before .reach-of .ensures) (c .before .size .given .1)
 
-  -- the rest is counted, by either way: at the end of what encloses it nothing is left
-  rest-counted : (c : lts.Joined1 (claims t) (count-fields-at t) count-fields.Post) →
-      let a = c .before .before .before .before .before .before .args in
-      let next = valueAt (a .at) + c .before .before .size .given .0 .0 in
-      Counts (c .if1 .rest) (a .file .now) next (a .end) × (c .if1 .rest ≤ a .end - next)
-  rest-counted c =
+  -- the field is counted, by each way: what it holds is no more than its bytes
+  field-counted : (c : lts.At-match2-came (claims t) (count-fields-at t) count-fields.Post) →
+      let a = c .before .before .before .before .before .before .before .args in
+      Holds (c .match2 .held) (a .file .now) (a .at)
+      × (c .match2 .held ≤ headSize + c .before .before .before .size .given .0 .0)
+  field-counted c =
+      let a = c .before .before .before .before .before .before .before .args in
+      let f = a .file .now in
       ⊎-elim
-      (λ w. rw (w .1, w .0 .taken) (count-end _ _, omega arith))
-      (λ w. rw (w .2) (w .1 .ensures))
-      (c .if1 .came)
+      (λ w. rw (w .1) (holds-request f (a .at) (w .0 .keys1), omega arith))
+      (λ v.
+      ⊎-elim
+      (λ w. rw (w .2) (holds-group f (a .at) _ _ (inside (c .before .before) .sized) (w .0 .keys2) (w .1 .ensures .0), omega (arith, w .1 .ensures .1)))
+      (λ w. rw (w .1) (holds-other f (a .at) (w .0 .rest .0 .1) (w .0 .rest .1), omega arith))
+      v)
+      (c .match2 .came)
 
 pub +count-fields-spec : {M : Type 1} → statement M
 +count-fields-spec = close μ-count-fields λ t. lts.spec (claims t)
@@ -65,14 +70,11 @@ pub +count-fields-spec : {M : Type 1} → statement M
     (λ c. (count-beyond _ _ _ (went-beyond _ _ _ _ (c .before .before .reach-of .ensures) (c .enum-told .given .1)), omega arith))
     (λ c. omega (arith, inside t c .head-fits))
     (λ c. omega (arith, inside t c .value-fits))
-    (λ c κs. let i = inside t (c .before) in (omega (arith, i .value-fits), (i .value-fits, omega arith)))
-    (λ c. omega (arith, inside t (c .before .before) .head-fits))
-    (λ c. let j = c .before .before .before in omega (arith, inside t (j .before) .value-fits, rest-counted t j .1))
-    (λ c κs. let i = inside t (c .before .before .before) in (omega (arith, i .value-fits), (omega arith, omega (arith, i .value-fits))))
-    (λ c. let j = c .before .before .before .before in omega (arith, inside t (j .before) .value-fits, rest-counted t j .1))
-    (λ c. let j = c .before .before .before in let i = inside t (j .before) in let r = rest-counted t j in
-    (count-request _ _ _ _ i _ (c .before .match2 .keys1) (r .0), omega (arith, i .value-fits, r .1)))
-    (λ c. let j = c .before .before .before .before in let i = inside t (j .before) in let r = rest-counted t j in
-    (count-group _ _ _ _ i _ _ (c .before .before .match2 .keys2) (c .before .count-fields2 .ensures .0) (r .0), omega (arith, i .value-fits, r .1)))
-    (λ c. let j = c .before .before in let i = inside t (j .before) in let r = rest-counted t j in
-    (count-other _ _ _ _ i _ (c .match2 .rest .0 .1) (c .match2 .rest .1) (r .0), omega (arith, i .value-fits, r .1)))
+    (λ c. omega (arith, inside t (c .before) .head-fits))
+    (λ c κs. let i = inside t (c .before .before) in (omega (arith, i .value-fits), (omega arith, omega (arith, i .value-fits))))
+    (λ c. let i = inside t (c .before .before .before) in let h = field-counted t (c .before) in
+    (count-last _ _ _ _ i _ (h .0) (c .if1 .taken), omega (arith, i .value-fits, h .1)))
+    (λ c κs. let i = inside t (c .before .before .before) in (omega (arith, i .value-fits), (omega (arith, i .value-fits), omega arith)))
+    (λ c. let h = field-counted t (c .before .before .before) in omega (arith, h .1))
+    (λ c. let j = c .before .before .before in let i = inside t (j .before .before) in let h = field-counted t j in
+    (count-field _ _ _ _ i _ (h .0) _ (c .before .count-fields2 .ensures .0), omega (arith, i .value-fits, h .1)))
