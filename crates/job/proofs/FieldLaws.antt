@@ -4,9 +4,10 @@ use mathlib.Core.Path.{_≡_, refl, sym, _∙_}
 use mathlib.Core.Logic.{_⊎_, inl, inr, ⊎-elim}
 use mathlib.Core.Bool.{Bool, true, false}
 use mathlib.Core.List.{List}
-use Prim.Native.Nat.{ℕ, _+_, _≤_, _<_}
+use Prim.Native.Nat.{ℕ, suc, _+_, _*_, _≤_, _<_}
 use native.Mathlib.Omega.{arith}
 use lib.Dec.{ltb, eqb}
+use lib.ListN.{getD}
 use borrow.Author.Tests.{le-ltb, lt-ltb, le-leb, eq-eqb, ne-eqb, eqb-true, eqb-false, ltb-true, ltb-false}
 use Rattle.words.specs.Words.{if_then_else_}
 use Rattle.job.specs.Field.{tagAt, lengthAt, valueAt, endAt, requestTag, groupTag, byTag, beyond, tagRefusal}
@@ -40,6 +41,10 @@ module _ {A : Type 0} (tag : ℕ) (request group other : A) where
   by-other p q = simp (ne-eqb _ _ p, ne-eqb _ _ q)
 
 -- ---- how far a field reaches
+
+-- the two bytes of the length, as the code reads them
+pub lengthAt-bytes : (file : List ℕ) (at : ℕ) → lengthAt file at ≡ 256 * getD file (at + 1) 0 + getD file (at + 2) 0
+lengthAt-bytes file at = let e : suc (at + 1) ≡ at + 2 = omega arith in rw e (omega arith)
 
 is-beyond : (b : Bool) (n : ℕ) → (if b then Beyond else Within n) ≡ Beyond → b ≡ true
 is-beyond true n e = refl

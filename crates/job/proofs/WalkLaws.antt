@@ -12,7 +12,8 @@ use Rattle.job.specs.Field.{tagAt, lengthAt, valueAt, endAt, requestTag,
 use Rattle.job.specs.Verdict.{Accepted, fieldsVerdict, verdict}
 use Rattle.job.specs.Requests.{Span, span, requestsIn, requestsOf, HaveSetups}
 use Rattle.job.specs.Walk.{Request, NoMore, walkIn, walk, firstMet, InOrder}
-use Rattle.job.proofs.FieldLaws.{Inside, which, lt-or-ge, eq-or-ne, by-request, by-group, by-other, end-beyond, fits, not-beyond-later, field-group, request-size}
+use Rattle.job.proofs.FieldLaws.{Inside, which, lt-or-ge, eq-or-ne, by-request, by-group, by-other, end-beyond}
+use Rattle.job.proofs.FieldLaws.{fits, not-beyond-later, field-group, request-size}
 use Rattle.job.proofs.VerdictLaws.{good, fields-more, both-accepted, file-accepted}
 use Rattle.job.proofs.RequestsLaws.{none-beyond, first-held}
 
@@ -43,7 +44,8 @@ unfolding walk
 walk-none file at b = in-none (length file) file at b
 
 module _ (file : List ℕ) (at : ℕ) (b : beyond file at (length file) ≡ false) where
-  walk-some : walk file at ≡ byTag (tagAt file at) (span (valueAt at) (lengthAt file at) ∷ walk file (endAt file at)) (walk file (valueAt at)) (walk file (endAt file at))
+  walk-some : walk file at
+      ≡ byTag (tagAt file at) (span (valueAt at) (lengthAt file at) ∷ walk file (endAt file at)) (walk file (valueAt at)) (walk file (endAt file at))
   unfolding walk
   walk-some = one-more file at ∙ in-some (length file) file at b
 
@@ -150,15 +152,26 @@ meets (suc n) file at end depth h k l g =
     ⊎-elim
     (λ (t : tagAt file at ≡ requestTag).
     rw (first-held n file at end (o .not-beyond), by-request _ _ _ _ t)
-    (record { in-order = walk-request file at b t ∙ ap (λ ss. span (valueAt at) (lengthAt file at) ∷ ss) (rest .in-order); have-setups = (request-size _ _ (rw t at (o .not-refused)), rest .have-setups) }))
+    (record {
+      in-order = walk-request file at b t ∙ ap (λ ss. span (valueAt at) (lengthAt file at) ∷ ss) (rest .in-order);
+      have-setups = (request-size _ _ (rw t at (o .not-refused)), rest .have-setups);
+    }))
     (λ (t : tagAt file at ≡ requestTag → ⊥).
     ⊎-elim
     (λ (u : tagAt file at ≡ groupTag).
-    let inside = meets n file (valueAt at) (endAt file at) (depth + 1) (omega arith) (omega (arith, o .value-fits)) (omega (arith, o .value-fits)) (sym (field-group _ file at end depth (o .not-beyond) (o .not-refused) u) ∙ a .0) in
+    let accepted = sym (field-group _ file at end depth (o .not-beyond) (o .not-refused) u) ∙ a .0 in
+    let fit = o .value-fits in
+    let inside = meets n file (valueAt at) (endAt file at) (depth + 1) (omega arith) (omega (arith, fit)) (omega (arith, fit)) accepted in
+    let held = inside .have-setups in
+    let more = rest .have-setups in
     rw (first-held n file at end (o .not-beyond), by-group _ _ _ _ u)
-    (record { in-order = walk-group file at b u ∙ inside .in-order ∙ rw (rest .in-order, append-assoc); have-setups = setups-append (requestsIn n file (valueAt at) (endAt file at)) (requestsIn n file (endAt file at) end) (inside .have-setups) (rest .have-setups) }))
+    (record {
+      in-order = walk-group file at b u ∙ inside .in-order ∙ rw (rest .in-order, append-assoc);
+      have-setups = setups-append (requestsIn n file (valueAt at) (endAt file at)) (requestsIn n file (endAt file at) end) held more;
+    }))
     (λ (u : tagAt file at ≡ groupTag → ⊥).
-    rw (first-held n file at end (o .not-beyond), by-other _ _ _ _ t u) (record { in-order = walk-other file at b t u ∙ rest .in-order; have-setups = rest .have-setups }))
+    rw (first-held n file at end (o .not-beyond), by-other _ _ _ _ t u)
+    (record { in-order = walk-other file at b t u ∙ rest .in-order; have-setups = rest .have-setups }))
     (eq-or-ne (tagAt file at) groupTag))
     (eq-or-ne (tagAt file at) requestTag))
     (λ (q : end ≤ at). meets-none (suc n) file at end h q)

@@ -6,13 +6,16 @@ use Prim.Native.Nat.{ℕ, _+_, _≤_}
 use native.Mathlib.Omega.{arith}
 use lib.ListN.{length, length-append}
 use Rattle.lines.specs.Text.{mostDigits, ascii, decimal, hexByte, hexBytes}
-use Rattle.lines.specs.Line.{Word, Done, Stall, Start, Refused, wordText, replyText, space, mostLine, requestLine, jobLine, refusedLine, mostJobLine, mostRefusedLine}
+use Rattle.lines.specs.Line.{Word, Done, Stall, Start, Refused, wordText, replyText, space, requestLine, jobLine, refusedLine}
+use Rattle.lines.specs.Line.{mostLine, mostJobLine, mostRefusedLine}
 use Rattle.lines.specs.Room.{requestSize, jobSize, refusedSize}
 use Rattle.lines.proofs.TextLaws.{length-decimal, length-hexBytes}
 
 module _ (n : ℕ) (w : Word) (st s p : ℕ) (r : List ℕ) where
   -- each piece with the space after it
-  pub requestLine-pieces : decimal n ++ space ++ (wordText w ++ space) ++ (decimal st ++ space) ++ hexByte s ++ space ++ (decimal p ++ space) ++ replyText r ++ ascii "\n" ≡ requestLine n w st s p r
+  pub requestLine-pieces :
+      decimal n ++ space ++ (wordText w ++ space) ++ (decimal st ++ space) ++ hexByte s ++ space ++ (decimal p ++ space) ++ replyText r
+      ++ ascii "\n" ≡ requestLine n w st s p r
   unfolding requestLine
   requestLine-pieces = simp append-assoc
 
@@ -57,7 +60,15 @@ replyText-le (b ∷ bs) h = omega (arith, length-hexBytes (b ∷ bs))
 
 -- the room that a line needs at most; the last two are 25 and 53 bytes
 pub requestLine-le : (n : ℕ) (w : Word) (st s p : ℕ) (r : List ℕ) → length r ≤ 1024 → length (requestLine n w st s p r) ≤ mostLine
-requestLine-le n w st s p r h = omega (arith, length-requestLine n w st s p r, length-decimal n, length-decimal st, length-decimal p, length-wordText w, replyText-le r h)
+requestLine-le n w st s p r h = omega (
+  arith,
+  length-requestLine n w st s p r,
+  length-decimal n,
+  length-decimal st,
+  length-decimal p,
+  length-wordText w,
+  replyText-le r h,
+)
 
 pub jobLine-le : (n : ℕ) → length (jobLine n) ≤ mostJobLine
 jobLine-le n = omega (arith, length-jobLine n, length-decimal n)

@@ -23,7 +23,8 @@ space = ascii " "
 -- "number from 1, .. state after it, status (two capital hex digits), pages, reply"
 unfoldable pub requestLine : ℕ → Word → ℕ → ℕ → ℕ → List ℕ → List ℕ
 requestLine number word state status pages reply =
-    decimal number ++ space ++ wordText word ++ space ++ decimal state ++ space ++ hexByte status ++ space ++ decimal pages ++ space ++ replyText reply ++ ascii "\n"
+    decimal number ++ space ++ wordText word ++ space ++ decimal state ++ space ++ hexByte status ++ space
+    ++ decimal pages ++ space ++ replyText reply ++ ascii "\n"
 
 -- no line for a reply of at most 1,024 bytes is longer; proved in proofs/LineLaws.antt
 abbrev pub mostLine : ℕ

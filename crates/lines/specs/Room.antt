@@ -14,6 +14,15 @@ pub use Rattle.lines.specs.declared.line.Put.the-variants.{Upto, Unwritt
 unfoldable pub put : ℕ → List ℕ → List ℕ → Put
 put at text room = if fits at text room then Upto (at + length text) else Unwritten 9
 
+-- the number of each of its cases, 0 where the text is written and else the refusal's; and the place after the text
+abbrev pub putNumber : Put → ℕ
+putNumber (Upto end) = 0
+putNumber (Unwritten k) = k
+
+abbrev pub putEnd : Put → ℕ
+putEnd (Upto end) = end
+putEnd (Unwritten k) = 0
+
 -- how many bytes a line has, as the code adds them up: those whose number never varies, and then these
 abbrev pub requestRest : ℕ
 requestRest = 8

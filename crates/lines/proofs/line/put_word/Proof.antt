@@ -30,10 +30,16 @@ put-text-requires-3 : tie.Need-put-text-requires-3
 put-text-requires-3 c κs = room-for _ Start (c .before .before .enum-told3 .given .1) _ _ (c .before .before .before .before .before .pre)
 
 put-text-requires-4 : tie.Need-put-text-requires-4
-put-text-requires-4 c κs = omega (arith, room-for _ (Refused _) (c .before .before .before .word .given .1) _ _ (c .before .before .before .before .before .before .pre))
+put-text-requires-4 c κs =
+    let b1 = c .before .before .before in
+    let b2 = b1 .before .before .before in
+    omega (arith, room-for _ (Refused _) (b1 .word .given .1) _ _ (b2 .pre))
 
 put-number-requires : tie.Need-put-number-requires
-put-number-requires c κs = omega (arith, room-for _ (Refused _) (c .before .before .before .before .before .before .before .word .given .1) _ _ (c .before .before .before .before .before .before .before .before .before .before .pre))
+put-number-requires c κs =
+    let b1 = c .before .before .before .before .before .before .before in
+    let b2 = b1 .before .before .before in
+    omega (arith, room-for _ (Refused _) (b1 .word .given .1) _ _ (b2 .pre))
 
 returns : tie.Need-returns
 returns c = word-put _ Done (c .before .before .before .before .before .enum-told .given .1) (c .before .before .put-text .ensures)
@@ -45,7 +51,15 @@ returns-3 : tie.Need-returns-3
 returns-3 c = word-put _ Start (c .before .before .before .before .before .enum-told3 .given .1) (c .before .before .put-text3 .ensures)
 
 returns-4 : tie.Need-returns-4
-returns-4 c = word-put _ (Refused _) (c .before .before .before .before .before .before .before .before .before .before .word .given .1) (joined (c .before .before .before .before .before .before .put-text4 .ensures) (c .before .before .put-number .ensures .0))
+returns-4 c =
+    let b1 = c .before .before .before .before .before .before in
+    let b2 = b1 .before .before .before .before in
+    word-put _ (Refused _) (b2 .word .given .1) (joined (b1 .put-text4 .ensures) (c .before .before .put-number .ensures .0))
 
 pub put-word-spec : {M : Type 1} → statement M
-put-word-spec = tie.close (tie.spec (λ c. search needs) (λ c. search needs) put-text-requires (λ c. search needs) (λ c. search needs) put-text-requires-2 (λ c. search needs) (λ c. search needs) put-text-requires-3 (λ c. search needs) (λ c. search needs) put-text-requires-4 (λ c. search needs) put-number-requires (λ c. search needs) returns (λ c. search needs) returns-2 (λ c. search needs) returns-3 (λ c. search needs) returns-4)
+put-word-spec = tie.close (tie.spec
+    (λ c. search needs) (λ c. search needs) put-text-requires
+    (λ c. search needs) (λ c. search needs) put-text-requires-2
+    (λ c. search needs) (λ c. search needs) put-text-requires-3
+    (λ c. search needs) (λ c. search needs) put-text-requires-4 (λ c. search needs) put-number-requires
+    (λ c. search needs) returns (λ c. search needs) returns-2 (λ c. search needs) returns-3 (λ c. search needs) returns-4)

@@ -1,14 +1,16 @@
 -- Laws of a run: one request and its line, and what is so far after some of them.
 -- Assumes nothing.
 use mathlib.Core.Path.{_≡_, refl, sym, ap, subst, _∙_}
+use mathlib.Core.Bool.{Bool, true, false}
 use mathlib.Core.List.{List, [], _∷_, _++_, append-assoc, append-nil}
 use Prim.Native.Nat.{ℕ, suc, _+_, _-_, _*_, _≤_, _<_}
 use native.Mathlib.Omega.{arith}
 use native.Mathlib.Numerals.{add-one}
+use lib.Dec.{ltb}
 use lib.ListN.{length, take, drop, replicate, length-replicate, length-drop, length-append}
 use lib.Seq.{length-take-le, take-take, take-add, take-append-seam, drop-drop, drop-at}
 use borrow.Author.Tests.{le-leb}
-use Rattle.words.specs.Words.{laid}
+use Rattle.words.specs.Words.{if_then_else_, laid}
 use Rattle.board.specs.Config.{deliveredConfig}
 use Rattle.board.specs.Memory.{eepromSize, blankFlash}
 use Rattle.job.specs.Field.{setupSize}
@@ -20,20 +22,21 @@ use Rattle.job.specs.declared.walk.Met.the-variants.{Request, NoMore}
 use Rattle.job.proofs.VerdictLaws.{file-accepted}
 use Rattle.job.proofs.WalkLaws.{steps, no-more, walk-job}
 use Rattle.lines.specs.Line.{requestLine, jobLine, refusedLine, mostLine, mostJobLine}
-use Rattle.lines.specs.Room.{put, Stands}
+use Rattle.lines.specs.Room.{put, putEnd, Stands}
 use Rattle.lines.specs.declared.line.Put.{Put}
+use Rattle.lines.specs.declared.line.Put.the-variants.{Upto, Unwritten}
 use Rattle.lines.specs.declared.line.Word.{Word}
 use Rattle.lines.proofs.LineLaws.{requestLine-le}
-use Rattle.lines.proofs.RoomLaws.{none-stands, joined, laid-stands}
+use Rattle.lines.proofs.RoomLaws.{none-stands, joined, laid-stands, put-within}
 use Rattle.loader.specs.Session.{idle}
 use Rattle.loader.specs.Result.{Board, board, Result, next}
 use Rattle.loader.specs.declared.answer.Answer.{Answer}
 use Rattle.loader.specs.Answered.{Stepped}
 use Rattle.loader.specs.Refusals.{replySize}
 use Rattle.loader.specs.Step.{ask, deliveredBoard}
-use Rattle.bench.specs.Bench.{wordOf, resultLine, asked, lines, bench}
-use Rattle.bench.specs.Run.{fewestBytes, mostOutput, endOf, Placed, answerLine, boardAt, Ran, Ready}
-use Rattle.bench.specs.declared.run.Progress.{Progress}
+use Rattle.run.specs.Bench.{wordOf, resultLine, asked, lines, bench}
+use Rattle.run.specs.Run.{fewestBytes, mostOutput, answerPut, Placed, answerLine, boardAt, Ran, Ready}
+use Rattle.run.specs.declared.run.Progress.{Progress}
 
 -- the size of an array, said for every size, so that nothing computes an array
 pub array-size : (n b : ℕ) → length (replicate n b) ≡ n
@@ -52,7 +55,8 @@ module _ (file : List ℕ) (start size : ℕ) (p : Placed file start size) where
   data-part =
       let e : start + size - (start + 8) ≡ size - 8 = omega arith in
       let f : 8 + (size - 8) ≡ size = omega (arith, p .has-setup) in
-      let l : length (take 8 (drop start file)) ≡ 8 = length-take-le 8 (drop start file) (rw (length-drop start file) (omega (arith, p .in-file, p .has-setup))) in
+      let l : length (take 8 (drop start file)) ≡ 8 = length-take-le 8 (drop start file)
+      (rw (length-drop start file) (omega (arith, p .in-file, p .has-setup))) in
       let t : take size (drop start file) ≡ take 8 (drop start file) ++ take (size - 8) (drop (start + 8) file)
       = ap (λ k. take k (drop start file)) (sym f) ∙ take-add 8 (size - 8) (drop start file) ∙ rw (drop-drop 8 start file) in
       rw e (sym (ap (drop 8) t ∙ drop-at (take 8 (drop start file)) _ 8 l))
@@ -79,18 +83,20 @@ module _ (b : Board) (r : Result) (a : Answer) (f e reply reply₀ : List ℕ) (
   }
 
 -- a text that fits stands in the room
-pub put-stands : (place end : ℕ) (text room₀ room : List ℕ) (q : Put) → place + length text ≤ length room₀ → q ≡ put place text room₀ → room ≡ laid place text room₀ → end ≡ endOf q
+pub put-stands : (place end : ℕ) (text room₀ room : List ℕ) (q : Put) → place + length text ≤ length room₀ → q ≡ put place text room₀
+    → room ≡ laid place text room₀ → end ≡ putEnd q
     → Stands place text room₀ end room
 unfolding put
 put-stands place end text room₀ room q h e l d =
-    let u : end ≡ place + length text = d ∙ ap endOf e ∙ rw (le-leb (place + length text) (length room₀) h) in
+    let u : end ≡ place + length text = d ∙ ap putEnd e ∙ rw (le-leb (place + length text) (length room₀) h) in
     rw u (laid-stands place text room₀ room h l)
 
 -- a request's line fits
 pub line-stands : (number place end : ℕ) (a : Answer) (w : Word) (reply room₀ room : List ℕ) (q : Put)
     → (a .length ≤ length reply) × (length reply ≡ replySize) → place + mostLine ≤ length room₀ → w ≡ wordOf (a .outcome)
-    → let text = requestLine number w (a .session .state) (a .session .status) (a .pages) (take (a .length) reply) in (q ≡ put place text room₀) × (room ≡ laid place text room₀)
-    → end ≡ endOf q
+    → let text = requestLine number w (a .session .state) (a .session .status) (a .pages) (take (a .length) reply) in (q ≡ put place text room₀) ×
+    (room ≡ laid place text room₀)
+    → end ≡ putEnd q
     → Stands place (answerLine number a reply) room₀ end room × (end ≤ place + mostLine)
 line-stands number place end a w reply room₀ room q h r e l d =
     let n : length (take (a .length) reply) ≡ a .length = length-take-le (a .length) reply (h .0) in
@@ -117,7 +123,8 @@ pub record SoFar (file f₀ e₀ room₀ : List ℕ) (place : ℕ) (f e reply ro
   pub number-small : p .number ≤ cursor + 1
   pub lines-fit : fewestBytes * p .place + mostLine * length file ≤ fewestBytes * length room + mostLine * cursor
 
-pub at-start : (file f e reply room : List ℕ) (place : ℕ) (p : Progress) → Ready file reply room place → p .session ≡ idle → p .config ≡ deliveredConfig → p .number ≡ 1 → p .place ≡ place
+pub at-start : (file f e reply room : List ℕ) (place : ℕ) (p : Progress) → Ready file reply room place → p .session ≡ idle
+    → p .config ≡ deliveredConfig → p .number ≡ 1 → p .place ≡ place
     → SoFar file f e room place f e reply room p 0
 at-start file f e reply room place p r s c n q = record {
   written = [];
@@ -130,7 +137,8 @@ at-start file f e reply room place p r s c n q = record {
   lines-fit = omega (arith, q, r .lines-fit);
 }
 
-module _ (file f₀ e₀ room₀ : List ℕ) (place : ℕ) (f e reply room : List ℕ) (p : Progress) (cursor : ℕ) (s : SoFar file f₀ e₀ room₀ place f e reply room p cursor) where
+module _ (file f₀ e₀ room₀ : List ℕ) (place : ℕ) (f e reply room : List ℕ) (p : Progress) (cursor : ℕ)
+    (s : SoFar file f₀ e₀ room₀ place f e reply room p cursor) where
   -- the walk meets a request
   module _ (start size : ℕ) (m : firstMet (walk file cursor) ≡ Request start size) where
     met-setup : setupSize ≤ size
@@ -185,7 +193,8 @@ module _ (file f₀ e₀ room₀ : List ℕ) (place : ℕ) (f e reply room : Lis
 -- ---- a whole job
 
 -- a line at the start of a room for every job
-pub front-stands : (end most : ℕ) (text room₀ room : List ℕ) (q : Put) → length text ≤ most → most ≤ mostOutput → mostOutput ≤ length room₀ → (q ≡ put 0 text room₀) × (room ≡ laid 0 text room₀) → end ≡ endOf q
+pub front-stands : (end most : ℕ) (text room₀ room : List ℕ) (q : Put) → length text ≤ most → most ≤ mostOutput → mostOutput ≤ length room₀
+    → (q ≡ put 0 text room₀) × (room ≡ laid 0 text room₀) → end ≡ putEnd q
     → Stands 0 text room₀ end room × (end ≤ most)
 front-stands end most text room₀ room q h k m l d =
     let t = put-stands 0 end text room₀ room q (omega (arith, h, k, m)) (l .0) (l .1) d in
@@ -221,6 +230,16 @@ module _ (file : List ℕ) (g : verdict file ≡ Accepted) where
   unfolding bench
   accepted-stands end room₀ room s = rw g s
 
-pub refused-stands : (file : List ℕ) (k p end : ℕ) (room₀ room : List ℕ) → verdict file ≡ Refused k p → Stands 0 (refusedLine k p) room₀ end room → Stands 0 (bench file) room₀ end room
+pub refused-stands : (file : List ℕ) (k p end : ℕ) (room₀ room : List ℕ) → verdict file ≡ Refused k p → Stands 0 (refusedLine k p) room₀ end room
+    → Stands 0 (bench file) room₀ end room
 unfolding bench
 refused-stands file k p end room₀ room g s = rw g s
+
+-- an answer that was put ends within the room
+else-was : (t : Bool) (k end : ℕ) (p : Put) → (if t then Unwritten k else p) ≡ Upto end → p ≡ Upto end
+else-was true k end p e = let z : _≡_ {A = ℕ} 0 1 = cc in absurd (omega arith)
+else-was false k end p e = e
+
+pub answer-within : (file room : List ℕ) (p : Put) (end : ℕ) → p ≡ answerPut file room → p ≡ Upto end → end ≤ length room
+unfolding answerPut
+answer-within file room p end e u = put-within 0 end (bench file) room (else-was (ltb (length room) mostOutput) 9 end _ (sym e ∙ u))

@@ -1,9 +1,9 @@
--- `bench::answer::blank_flash` meets its contract: the array is what the shut name stands for.
+-- `run::answer::blank_flash` meets its contract: the array is what the shut name stands for.
 -- Assumes nothing.
 use mathlib.Core.Path.{refl}
 use Rattle.board.specs.Memory.{blankFlash}
-use Rattle.bench.proofs.answer.blank_flash.Statement.{statement}
-use Rattle.bench.proofs.answer.blank_flash.Tie as tie
+use Rattle.run.proofs.answer.blank_flash.Statement.{statement}
+use Rattle.run.proofs.answer.blank_flash.Tie as tie
 
 returns : tie.Need-returns
 unfolding blankFlash

@@ -12,10 +12,11 @@ use Rattle.loader.specs.Commands.{perform, obey}
 use Rattle.loader.specs.Requests.{requestOf, dnload, send, upload, respond}
 use Rattle.loader.specs.Refusals.{refusal}
 use Rattle.loader.specs.Step.{ask}
-use Rattle.bench.specs.Bench.{lines, bench, Example, EmptyJob}
+use Rattle.run.specs.Bench.{lines, bench, Example, EmptyJob}
 
 pub example : Example
-unfolding bench verdict fieldVerdict fieldsVerdict tagRefusal andThen requestsOf requestsIn jobLine requestLine decimal lines ask refusal requestOf respond dnload form obey perform upload send blankFlash
+unfolding bench verdict fieldVerdict fieldsVerdict tagRefusal andThen requestsOf requestsIn jobLine requestLine decimal lines
+    ask refusal requestOf respond dnload form obey perform upload send blankFlash
 example = refl
 
 pub empty-job : EmptyJob

@@ -2,20 +2,22 @@
 use mathlib.Core.Path.{_≡_}
 use mathlib.Core.List.{List}
 use Prim.Native.Nat.{ℕ, suc, _+_, _*_, _≤_}
+use lib.Dec.{ltb}
 use lib.ListN.{length, take}
+use Rattle.words.specs.Words.{if_then_else_, laid}
 use Rattle.job.specs.Field.{headSize, setupSize}
 use Rattle.job.specs.Verdict.{mostFile}
 use Rattle.job.specs.Requests.{HaveSetups}
 use Rattle.job.specs.Walk.{walk}
 use Rattle.lines.specs.Line.{requestLine, mostLine, mostJobLine}
-use Rattle.lines.specs.Room.{Stands}
+use Rattle.lines.specs.Room.{put, Stands}
 use Rattle.lines.specs.declared.line.Put.{Put}
-use Rattle.lines.specs.declared.line.Put.the-variants.{Upto, Unwritten}
+use Rattle.lines.specs.declared.line.Put.the-variants.{Unwritten}
 use Rattle.loader.specs.Result.{Board, board, Result, next}
 use Rattle.loader.specs.declared.answer.Answer.{Answer}
 use Rattle.loader.specs.Refusals.{replySize}
-use Rattle.bench.specs.Bench.{wordOf, resultLine}
-use Rattle.bench.specs.declared.run.Progress.{Progress}
+use Rattle.run.specs.Bench.{wordOf, resultLine, bench}
+use Rattle.run.specs.declared.run.Progress.{Progress}
 
 -- the fewest bytes of a request's field: tag, length and setup
 abbrev pub fewestBytes : ℕ
@@ -29,10 +31,14 @@ mostRequests = 1490
 abbrev pub mostOutput : ℕ
 mostOutput = mostJobLine + mostLine * mostRequests
 
--- where a line ends in the room
-abbrev pub endOf : Put → ℕ
-endOf (Upto end) = end
-endOf (Unwritten k) = 0
+-- what the writer of the answer gives: the place after it, or 9, "room too short". A run can't be taken back, so a room that is
+-- shorter than the longest answer is refused before it
+unfoldable pub answerPut : List ℕ → List ℕ → Put
+answerPut file room = if ltb (length room) mostOutput then Unwritten 9 else put 0 (bench file) room
+
+-- what the room then holds: "refusing, it leaves its room unwritten, and otherwise the room past its answer"
+unfoldable pub answerRoom : List ℕ → List ℕ → List ℕ
+answerRoom file room = if ltb (length room) mostOutput then room else laid 0 (bench file) room
 
 -- a request's value lies in the file and has its setup
 pub record Placed (file : List ℕ) (start size : ℕ) : Type 0 where

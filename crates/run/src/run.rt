@@ -7,13 +7,13 @@ ghost use Rattle.job.specs.Verdict.{mostFile};
 ghost use Rattle.job.specs.Requests.{span};
 ghost use Rattle.job.specs.Walk.{walk};
 ghost use Rattle.lines.specs.Line.{mostLine};
-ghost use Rattle.lines.specs.Room.{Stands};
+ghost use Rattle.lines.specs.Room.{putEnd, Stands};
 ghost use Rattle.loader.specs.Session.{idle};
 ghost use Rattle.loader.specs.Refusals.{replySize};
 ghost use Rattle.loader.specs.Result.{board};
 ghost use Rattle.loader.specs.Answered.{Stepped};
-ghost use Rattle.bench.specs.Bench.{wordOf, asked, lines};
-ghost use Rattle.bench.specs.Run.{endOf, Placed, answerLine, boardAt, Ran, Ready};
+ghost use Rattle.run.specs.Bench.{wordOf, asked, lines};
+ghost use Rattle.run.specs.Run.{Placed, answerLine, boardAt, Ran, Ready};
 use board::Config;
 use board::delivered;
 use job::Met;
@@ -49,8 +49,8 @@ fn word_of(outcome: Outcome) -> Word
 }
 
 // Where a line ends that fits.
-pub fn end_of(put: Put) -> usize
-    ensures { λ r. ⌜ r ≡ endOf put ⌝ }
+pub(crate) fn end_of(put: Put) -> usize
+    ensures { λ r. ⌜ r ≡ putEnd put ⌝ }
 {
     match put {
         Put::Upto(end) => end,
@@ -71,7 +71,9 @@ fn ask_board(
 ) -> Answer
     requires { ⌜ Placed (now file) start size ⌝ }
     requires { ⌜ length (now reply) ≡ replySize ⌝ }
-    ensures { λ r. ⌜ Stepped (board session config (now (flash .entry)) (now (eeprom .entry))) (asked (now (file .entry)) (span start size) (board session config (now (flash .entry)) (now (eeprom .entry)))) r (now (flash .exit)) (now (eeprom .exit)) (now (reply .exit)) (now (reply .entry)) ⌝ }
+    ensures { λ r. let b = board session config (now (flash .entry)) (now (eeprom .entry)) in
+        ⌜ Stepped b (asked (now (file .entry)) (span start size) b) r
+        (now (flash .exit)) (now (eeprom .exit)) (now (reply .exit)) (now (reply .entry)) ⌝ }
 {
     let sent = start + SETUP_SIZE;
     let end = start + size;
@@ -122,7 +124,9 @@ fn run_one(
     requires { ⌜ Placed (now file) start size ⌝ }
     requires { ⌜ length (now reply) ≡ replySize ⌝ }
     requires { ⌜ (progress .number ≤ mostFile) × (progress .place + mostLine ≤ length (now room)) ⌝ }
-    ensures { λ r. ⌜ Ran progress (boardAt progress (now (flash .entry)) (now (eeprom .entry))) (asked (now (file .entry)) (span start size) (boardAt progress (now (flash .entry)) (now (eeprom .entry)))) r (now (flash .exit)) (now (eeprom .exit)) (now (room .entry)) (now (room .exit)) ⌝ }
+    ensures { λ r. let b = boardAt progress (now (flash .entry)) (now (eeprom .entry)) in
+        ⌜ Ran progress b (asked (now (file .entry)) (span start size) b) r
+        (now (flash .exit)) (now (eeprom .exit)) (now (room .entry)) (now (room .exit)) ⌝ }
 {
     let number = progress.number;
     let place = progress.place;
@@ -141,7 +145,7 @@ fn run_one(
 }
 
 // Runs the requests that the walk meets from the start on.
-pub fn run_all(
+pub(crate) fn run_all(
     file: &[u8],
     flash: &mut [u8],
     eeprom: &mut [u8],
@@ -150,7 +154,8 @@ pub fn run_all(
     place: usize,
 ) -> usize
     requires { ⌜ Ready (now file) (now reply) (now room) place ⌝ }
-    ensures { λ r. ⌜ Stands place (lines (now (file .entry)) (board idle deliveredConfig (now (flash .entry)) (now (eeprom .entry))) 1 (walk (now (file .entry)) 0)) (now (room .entry)) r (now (room .exit)) ⌝ }
+    ensures { λ r. let b = board idle deliveredConfig (now (flash .entry)) (now (eeprom .entry)) in
+        ⌜ Stands place (lines (now (file .entry)) b 1 (walk (now (file .entry)) 0)) (now (room .entry)) r (now (room .exit)) ⌝ }
 {
     let mut progress = Progress {
         session: power_up(),
