@@ -8,8 +8,6 @@ use Rattle.command.specs.declared.reader.Reading.{Reading}
 use Rattle.command.specs.declared.reader.Reading.the-variants.{Taken, Stalls, BadAddress}
 use Rattle.command.specs.declared.writer.Written.{Written}
 use Rattle.command.specs.declared.writer.Written.the-variants.{Wrote, Unwritten}
-use Rattle.job.specs.declared.verdict.Verdict.{Verdict}
-use Rattle.job.specs.declared.verdict.Verdict.the-variants.{Accepted, Refused}
 use Rattle.loader.specs.Result.{Board, Result, next, pages, replyAfter}
 use Rattle.exports.specs.Layout.{packSession, packConfig, packOutcome, packCommand}
 
@@ -54,12 +52,3 @@ writtenTold (Unwritten k) = k
 abbrev pub lengthTold : Written → ℕ
 lengthTold (Wrote n) = n
 lengthTold (Unwritten k) = 0
-
--- the verdict on a job file: 0, or the number of the refusal; and the offset of the bad field's tag, 0 where the file is accepted
-abbrev pub verdictTold : Verdict → ℕ
-verdictTold Accepted = 0
-verdictTold (Refused k p) = k
-
-abbrev pub placeTold : Verdict → ℕ
-placeTold Accepted = 0
-placeTold (Refused k p) = p

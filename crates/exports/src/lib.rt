@@ -13,12 +13,12 @@ ghost use lib.ListN.{length};
 ghost use Rattle.command.specs.Reader.{readCommand};
 ghost use Rattle.command.specs.Writer.{writeCommand, roomAfter};
 ghost use Rattle.job.specs.Requests.{requestCount};
-ghost use Rattle.job.specs.Verdict.{verdict};
+ghost use Rattle.job.specs.Verdict.{verdict, verdictNumber, verdictPlace};
 ghost use Rattle.loader.specs.Session.{idle};
 ghost use Rattle.loader.specs.Result.{board as boardOf};
 ghost use Rattle.loader.specs.Step.{ask};
 ghost use Rattle.exports.specs.Layout.{packSession, sessionOf, configOf, commandOf};
-ghost use Rattle.exports.specs.Exported.{StepTold, readingTold, commandTold, bodyTold, suffixTold, writtenTold, lengthTold, verdictTold, placeTold};
+ghost use Rattle.exports.specs.Exported.{StepTold, readingTold, commandTold, bodyTold, suffixTold, writtenTold, lengthTold};
 use command::Reading;
 use command::Written;
 use command_number::command_of;
@@ -124,8 +124,8 @@ pub extern "C" fn loader_write_command(
 // The verdict on a job file: 0, or the number of its refusal. `at` gets the offset of the bad field's tag.
 #[no_mangle]
 pub extern "C" fn loader_check_job(file: &[u8], at: &mut usize) -> u8
-    ensures { λ r. ⌜ r ≡ verdictTold (verdict (now (file .entry))) ⌝ }
-    ensures { λ r. ⌜ now (at .exit) ≡ placeTold (verdict (now (file .entry))) ⌝ }
+    ensures { λ r. ⌜ r ≡ verdictNumber (verdict (now (file .entry))) ⌝ }
+    ensures { λ r. ⌜ now (at .exit) ≡ verdictPlace (verdict (now (file .entry))) ⌝ }
 {
     match job::check_job(file) {
         Verdict::Accepted => {

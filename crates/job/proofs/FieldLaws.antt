@@ -4,12 +4,13 @@ use mathlib.Core.Path.{_≡_, refl, sym, _∙_}
 use mathlib.Core.Logic.{_⊎_, inl, inr, ⊎-elim}
 use mathlib.Core.Bool.{Bool, true, false}
 use mathlib.Core.List.{List}
-use Prim.Native.Nat.{ℕ, _+_, _≤_, _<_}
+use Prim.Native.Nat.{ℕ, suc, _+_, _*_, _≤_, _<_}
 use native.Mathlib.Omega.{arith}
 use lib.Dec.{ltb, eqb}
+use lib.ListN.{getD}
 use borrow.Author.Tests.{le-ltb, lt-ltb, le-leb, eq-eqb, ne-eqb, eqb-true, eqb-false, ltb-true, ltb-false}
 use Rattle.words.specs.Words.{if_then_else_}
-use Rattle.job.specs.Field.{tagAt, lengthAt, valueAt, endAt, requestTag, groupTag, beyond, tagRefusal}
+use Rattle.job.specs.Field.{tagAt, lengthAt, valueAt, endAt, requestTag, groupTag, byTag, beyond, tagRefusal}
 use Rattle.job.specs.Verdict.{Verdict, Accepted, Refused, fieldVerdict}
 use Rattle.job.specs.Read.{reachOf}
 use Rattle.job.specs.declared.field.Reach.{Reach}
@@ -27,7 +28,23 @@ lt-or-ge a b = ⊎-elim (λ e. inl (ltb-true a b e)) (λ e. inr (ltb-false a b e
 pub eq-or-ne : (a b : ℕ) → (a ≡ b) ⊎ (a ≡ b → ⊥)
 eq-or-ne a b = ⊎-elim (λ e. inl (eqb-true a b e)) (λ e. inr (eqb-false a b e)) (which (eqb a b))
 
+-- ---- what a tag chooses
+
+module _ {A : Type 0} (tag : ℕ) (request group other : A) where
+  pub by-request : tag ≡ requestTag → byTag tag request group other ≡ request
+  by-request t = simp t
+
+  pub by-group : tag ≡ groupTag → byTag tag request group other ≡ group
+  by-group t = simp t
+
+  pub by-other : (tag ≡ requestTag → ⊥) → (tag ≡ groupTag → ⊥) → byTag tag request group other ≡ other
+  by-other p q = simp (ne-eqb _ _ p, ne-eqb _ _ q)
+
 -- ---- how far a field reaches
+
+-- the two bytes of the length, as the code reads them
+pub lengthAt-bytes : (file : List ℕ) (at : ℕ) → lengthAt file at ≡ 256 * getD file (at + 1) 0 + getD file (at + 2) 0
+lengthAt-bytes file at = let e : suc (at + 1) ≡ at + 2 = omega arith in rw e (omega arith)
 
 is-beyond : (b : Bool) (n : ℕ) → (if b then Beyond else Within n) ≡ Beyond → b ≡ true
 is-beyond true n e = refl
@@ -45,6 +62,10 @@ pub record Inside (file : List ℕ) (at end size : ℕ) : Type 0 where
   pub value-fits : valueAt at + size ≤ end
 
 module _ (file : List ℕ) (at end : ℕ) where
+  -- no bytes left
+  pub end-beyond : end ≤ at → beyond file at end ≡ true
+  end-beyond h = simp (lt-ltb end (valueAt at) (omega arith))
+
   pub reach-short : end < valueAt at → Beyond ≡ reachOf file at end
   unfolding reachOf
   reach-short h = simp (lt-ltb _ _ h)

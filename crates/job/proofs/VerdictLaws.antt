@@ -8,12 +8,12 @@ use Prim.Native.Nat.{ℕ, zero, suc, _+_, _≤_, _<_}
 use native.Mathlib.Omega.{arith}
 use lib.ListN.{length}
 use borrow.Author.Tests.{le-leb, lt-leb, lt-ltb, le-ltb}
-use Rattle.job.specs.Field.{tagAt, lengthAt, valueAt, endAt, beyond, tagRefusal}
+use Rattle.job.specs.Field.{tagAt, lengthAt, valueAt, endAt, groupTag, beyond, tagRefusal}
 use Rattle.job.specs.Verdict.{Verdict, Accepted, Refused, andThen, fieldVerdict, fieldsVerdict, mostFile, verdict}
 use Rattle.job.specs.Read.{readOf, ReadsFields, ReadsField}
 use Rattle.job.specs.declared.verdict.FieldRead.{FieldRead}
 use Rattle.job.specs.declared.verdict.FieldRead.the-variants.{Next, Bad}
-use Rattle.job.proofs.FieldLaws.{which, lt-or-ge, eq-or-ne, fits, field-beyond, field-bad}
+use Rattle.job.proofs.FieldLaws.{Inside, which, lt-or-ge, eq-or-ne, fits, field-beyond, field-bad, field-group}
 
 -- ---- a refusal is not accepted, and what is read of a verdict says which it was
 
@@ -59,7 +59,9 @@ fields-none zero file at end depth h = refl
 fields-none (suc n) file at end depth h = simp (le-leb _ _ h)
 
 pub fields-more : (n : ℕ) (file : List ℕ) (at end depth : ℕ) → at < end
-    → fieldsVerdict (suc n) file at end depth ≡ andThen (fieldVerdict (fieldsVerdict n file (valueAt at) (endAt file at) (depth + 1)) file at end depth) (fieldsVerdict n file (endAt file at) end depth)
+    → fieldsVerdict (suc n) file at end depth ≡ andThen
+    (fieldVerdict (fieldsVerdict n file (valueAt at) (endAt file at) (depth + 1)) file at end depth)
+    (fieldsVerdict n file (endAt file at) end depth)
 unfolding fieldsVerdict
 fields-more n file at end depth h = simp (lt-leb _ _ h)
 
@@ -97,10 +99,13 @@ pub read-next : (v : Verdict) (next next′ : ℕ) → v ≡ Accepted → next�
 unfolding readOf
 read-next v next next′ e f = rw (e, f)
 
--- the verdict v on a group's value, whose end the code has as a sum
-pub held : (file : List ℕ) (at size depth : ℕ) (v : Verdict) → size ≡ lengthAt file at → ReadsFields v file (valueAt at) (valueAt at + size) depth
-    → (n : ℕ) → lengthAt file at ≤ n → v ≡ fieldsVerdict n file (valueAt at) (endAt file at) depth
-held file at size depth v e reads n h = reads n (omega arith) ∙ ap (λ (l : ℕ). fieldsVerdict n file (valueAt at) (valueAt at + l) depth) e
+-- a group has the verdict v on its value, whose end the code has as a sum
+pub group-held : (file : List ℕ) (at end depth size : ℕ) → Inside file at end size → tagRefusal (tagAt file at) (lengthAt file at) depth ≡ 0
+    → tagAt file at ≡ groupTag → (v : Verdict) → ReadsFields v file (valueAt at) (valueAt at + size) (depth + 1) → (n : ℕ) → end ≤ at + suc n
+    → fieldVerdict (fieldsVerdict n file (valueAt at) (endAt file at) (depth + 1)) file at end depth ≡ v
+group-held file at end depth size i r t v reads n h =
+    field-group _ file at end depth (i .not-beyond) r t
+    ∙ sym (reads n (omega (arith, i .value-fits)) ∙ ap (λ (l : ℕ). fieldsVerdict n file (valueAt at) (valueAt at + l) (depth + 1)) (i .sized))
 
 -- an accepted file is an accepted list
 pub file-accepted : (file : List ℕ) → verdict file ≡ Accepted → (length file ≤ mostFile) × (fieldsVerdict (length file) file 0 (length file) 0 ≡ Accepted)

@@ -7,36 +7,26 @@ use mathlib.Core.List.{List, [], _∷_, _++_, append-assoc, append-nil}
 use Prim.Native.Nat.{ℕ, zero, suc, _+_, _≤_, _<_}
 use native.Mathlib.Omega.{arith}
 use lib.ListN.{length}
-use borrow.Author.Tests.{lt-ltb, ne-eqb}
-use Rattle.job.specs.Field.{tagAt, lengthAt, valueAt, endAt, requestTag, groupTag, beyond}
+use borrow.Author.Tests.{le-ltb}
+use Rattle.job.specs.Field.{tagAt, lengthAt, valueAt, endAt, requestTag, groupTag, byTag, beyond}
 use Rattle.job.specs.Verdict.{Accepted, fieldsVerdict, verdict}
 use Rattle.job.specs.Requests.{Span, span, requestsIn, requestsOf, HaveSetups}
 use Rattle.job.specs.Walk.{Request, NoMore, walkIn, walk, firstMet, InOrder}
-use Rattle.job.proofs.FieldLaws.{Inside, which, lt-or-ge, eq-or-ne, fits, not-beyond-later, field-group, request-size}
+use Rattle.job.proofs.FieldLaws.{Inside, which, lt-or-ge, eq-or-ne, by-request, by-group, by-other, end-beyond}
+use Rattle.job.proofs.FieldLaws.{fits, not-beyond-later, field-group, request-size}
 use Rattle.job.proofs.VerdictLaws.{good, fields-more, both-accepted, file-accepted}
-use Rattle.job.proofs.RequestsLaws.{none-beyond, request-first, group-first, other-first}
-
--- fewer than three bytes left
-pub end-beyond : (file : List ℕ) (at end : ℕ) → end ≤ at → beyond file at end ≡ true
-end-beyond file at end h = simp (lt-ltb end (valueAt at) (omega arith))
+use Rattle.job.proofs.RequestsLaws.{none-beyond, first-held}
 
 in-none : (n : ℕ) (file : List ℕ) (at : ℕ) → beyond file at (length file) ≡ true → walkIn n file at ≡ []
 unfolding walkIn
 in-none zero file at b = refl
 in-none (suc n) file at b = simp b
 
-module _ (n : ℕ) (file : List ℕ) (at : ℕ) (b : beyond file at (length file) ≡ false) where
-  in-request : tagAt file at ≡ requestTag → walkIn (suc n) file at ≡ span (valueAt at) (lengthAt file at) ∷ walkIn n file (endAt file at)
-  unfolding walkIn
-  in-request t = simp (b, t)
-
-  in-group : tagAt file at ≡ groupTag → walkIn (suc n) file at ≡ walkIn n file (valueAt at)
-  unfolding walkIn
-  in-group t = simp (b, t)
-
-  in-other : (tagAt file at ≡ requestTag → ⊥) → (tagAt file at ≡ groupTag → ⊥) → walkIn (suc n) file at ≡ walkIn n file (endAt file at)
-  unfolding walkIn
-  in-other p q = simp (b, ne-eqb _ _ p, ne-eqb _ _ q)
+in-some : (n : ℕ) (file : List ℕ) (at : ℕ) → beyond file at (length file) ≡ false
+    → walkIn (suc n) file at
+    ≡ byTag (tagAt file at) (span (valueAt at) (lengthAt file at) ∷ walkIn n file (endAt file at)) (walkIn n file (valueAt at)) (walkIn n file (endAt file at))
+unfolding walkIn
+in-some n file at b = simp b
 
 -- a bound that does for the bytes left does not matter
 enough : (n m : ℕ) (file : List ℕ) (at : ℕ) → length file ≤ at + n → length file ≤ at + m → walkIn n file at ≡ walkIn m file at
@@ -54,17 +44,19 @@ unfolding walk
 walk-none file at b = in-none (length file) file at b
 
 module _ (file : List ℕ) (at : ℕ) (b : beyond file at (length file) ≡ false) where
-  pub walk-request : tagAt file at ≡ requestTag → walk file at ≡ span (valueAt at) (lengthAt file at) ∷ walk file (endAt file at)
+  walk-some : walk file at
+      ≡ byTag (tagAt file at) (span (valueAt at) (lengthAt file at) ∷ walk file (endAt file at)) (walk file (valueAt at)) (walk file (endAt file at))
   unfolding walk
-  walk-request t = one-more file at ∙ in-request (length file) file at b t
+  walk-some = one-more file at ∙ in-some (length file) file at b
+
+  pub walk-request : tagAt file at ≡ requestTag → walk file at ≡ span (valueAt at) (lengthAt file at) ∷ walk file (endAt file at)
+  walk-request t = walk-some ∙ by-request _ _ _ _ t
 
   pub walk-group : tagAt file at ≡ groupTag → walk file at ≡ walk file (valueAt at)
-  unfolding walk
-  walk-group t = one-more file at ∙ in-group (length file) file at b t
+  walk-group t = walk-some ∙ by-group _ _ _ _ t
 
   pub walk-other : (tagAt file at ≡ requestTag → ⊥) → (tagAt file at ≡ groupTag → ⊥) → walk file at ≡ walk file (endAt file at)
-  unfolding walk
-  walk-other p q = one-more file at ∙ in-other (length file) file at b p q
+  walk-other p q = walk-some ∙ by-other _ _ _ _ p q
 
 -- ---- a turn of the loop that walks: it began at `from` and is at `at`, with the size of the field in a local
 
@@ -159,16 +151,27 @@ meets (suc n) file at end depth h k l g =
     let rest = meets n file (endAt file at) end depth (o .value-fits) (omega arith) l (a .1) in
     ⊎-elim
     (λ (t : tagAt file at ≡ requestTag).
-    rw (request-first n file at end (o .not-beyond) t)
-    (record { in-order = walk-request file at b t ∙ ap (λ ss. span (valueAt at) (lengthAt file at) ∷ ss) (rest .in-order); have-setups = (request-size _ _ (rw t at (o .not-refused)), rest .have-setups) }))
+    rw (first-held n file at end (o .not-beyond), by-request _ _ _ _ t)
+    (record {
+      in-order = walk-request file at b t ∙ ap (λ ss. span (valueAt at) (lengthAt file at) ∷ ss) (rest .in-order);
+      have-setups = (request-size _ _ (rw t at (o .not-refused)), rest .have-setups);
+    }))
     (λ (t : tagAt file at ≡ requestTag → ⊥).
     ⊎-elim
     (λ (u : tagAt file at ≡ groupTag).
-    let inside = meets n file (valueAt at) (endAt file at) (depth + 1) (omega arith) (omega (arith, o .value-fits)) (omega (arith, o .value-fits)) (sym (field-group _ file at end depth (o .not-beyond) (o .not-refused) u) ∙ a .0) in
-    rw (group-first n file at end (o .not-beyond) u)
-    (record { in-order = walk-group file at b u ∙ inside .in-order ∙ rw (rest .in-order, append-assoc); have-setups = setups-append (requestsIn n file (valueAt at) (endAt file at)) (requestsIn n file (endAt file at) end) (inside .have-setups) (rest .have-setups) }))
+    let accepted = sym (field-group _ file at end depth (o .not-beyond) (o .not-refused) u) ∙ a .0 in
+    let fit = o .value-fits in
+    let inside = meets n file (valueAt at) (endAt file at) (depth + 1) (omega arith) (omega (arith, fit)) (omega (arith, fit)) accepted in
+    let held = inside .have-setups in
+    let more = rest .have-setups in
+    rw (first-held n file at end (o .not-beyond), by-group _ _ _ _ u)
+    (record {
+      in-order = walk-group file at b u ∙ inside .in-order ∙ rw (rest .in-order, append-assoc);
+      have-setups = setups-append (requestsIn n file (valueAt at) (endAt file at)) (requestsIn n file (endAt file at) end) held more;
+    }))
     (λ (u : tagAt file at ≡ groupTag → ⊥).
-    rw (other-first n file at end (o .not-beyond) t u) (record { in-order = walk-other file at b t u ∙ rest .in-order; have-setups = rest .have-setups }))
+    rw (first-held n file at end (o .not-beyond), by-other _ _ _ _ t u)
+    (record { in-order = walk-other file at b t u ∙ rest .in-order; have-setups = rest .have-setups }))
     (eq-or-ne (tagAt file at) groupTag))
     (eq-or-ne (tagAt file at) requestTag))
     (λ (q : end ≤ at). meets-none (suc n) file at end h q)
@@ -178,7 +181,9 @@ meets (suc n) file at end depth h k l g =
 pub walk-job : (file : List ℕ) → verdict file ≡ Accepted → (walk file 0 ≡ requestsOf file) × HaveSetups (requestsOf file)
 unfolding requestsOf
 walk-job file g =
-    let m = meets (length file) file 0 (length file) 0 (omega arith) (omega arith) (omega arith) (file-accepted file g .1) in
+    let a = file-accepted file g in
+    let m = meets (length file) file 0 (length file) 0 (omega arith) (omega arith) (omega arith) (a .1) in
+    rw (le-ltb _ _ (a .0))
     (m .in-order ∙ rw (walk-none file (length file) (end-beyond file (length file) (length file) (omega arith)), append-nil), m .have-setups)
 
 pub in-order : InOrder

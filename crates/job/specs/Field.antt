@@ -2,10 +2,9 @@
 -- Assumes nothing: these are definitions.
 use mathlib.Core.Bool.{Bool, not, _&&_, _||_}
 use mathlib.Core.List.{List, [], _∷_}
-use Prim.Native.Nat.{ℕ, _+_, _*_}
+use Prim.Native.Nat.{ℕ, _+_}
 use lib.Dec.{eqb, leb, ltb}
-use lib.ListN.{getD}
-use Rattle.words.specs.Words.{if_then_else_, among}
+use Rattle.words.specs.Words.{if_then_else_, among, byteAt, highFirst}
 
 -- "one-byte tag, two-byte length (high first)": the three bytes before a value
 abbrev pub headSize : ℕ
@@ -13,10 +12,10 @@ headSize = 3
 
 -- of the field whose tag stands at a place: its tag, its length, and where its value begins and ends
 abbrev pub tagAt : List ℕ → ℕ → ℕ
-tagAt file at = getD file at 0
+tagAt file at = byteAt file at
 
 abbrev pub lengthAt : List ℕ → ℕ → ℕ
-lengthAt file at = 256 * getD file (at + 1) 0 + getD file (at + 2) 0
+lengthAt file at = highFirst file (at + 1)
 
 abbrev pub valueAt : ℕ → ℕ
 valueAt at = at + headSize
@@ -33,6 +32,10 @@ groupTag = 0x02
 
 abbrev pub noteTag : ℕ
 noteTag = 0x03
+
+-- what a tag chooses: the first for a request, the second for a group, the third for any other field
+abbrev pub byTag : {A : Type 0} → ℕ → A → A → A → A
+byTag tag request group other = if eqb tag requestTag then request else if eqb tag groupTag then group else other
 
 -- "8 setup bytes then data", "a note of up to 64 bytes", "four deep at most"
 abbrev pub setupSize : ℕ

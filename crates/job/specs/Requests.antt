@@ -1,10 +1,11 @@
 -- The requests of a job. Assumes nothing: these are definitions.
 use mathlib.Core.List.{List, [], _∷_, _++_}
 use Prim.Native.Nat.{ℕ, zero, suc, _≤_}
-use lib.Dec.{eqb}
+use lib.Dec.{ltb}
 use lib.ListN.{length, take, drop}
 use Rattle.words.specs.Words.{if_then_else_}
-use Rattle.job.specs.Field.{tagAt, lengthAt, valueAt, endAt, beyond, requestTag, groupTag, setupSize}
+use Rattle.job.specs.Field.{tagAt, lengthAt, valueAt, endAt, setupSize, byTag, beyond}
+use Rattle.job.specs.Verdict.{mostFile}
 
 -- where a request's value lies in the file
 pub record Span : Type 0 where
@@ -14,6 +15,10 @@ pub record Span : Type 0 where
 abbrev pub span : ℕ → ℕ → Span
 span start size = record { start = start; size = size }
 
+-- the requests that the field at a place holds: a request itself, a group those inside it, any other field none
+abbrev pub held : List Span → List ℕ → ℕ → List Span
+held inside file at = byTag (tagAt file at) (span (valueAt at) (lengthAt file at) ∷ []) inside []
+
 -- the requests of the fields from a place up to `end`, in file order, through all groups; a field that goes beyond ends them. The
 -- first number bounds the calls inside each other, as in fieldsVerdict
 unfoldable pub requestsIn : ℕ → List ℕ → ℕ → ℕ → List Span
@@ -21,15 +26,12 @@ requestsIn zero file at end = []
 requestsIn (suc n) file at end =
     let inside = requestsIn n file (valueAt at) (endAt file at) in
     let rest = requestsIn n file (endAt file at) end in
-    let field : List Span =
-    if eqb (tagAt file at) requestTag then span (valueAt at) (lengthAt file at) ∷ rest else
-    if eqb (tagAt file at) groupTag then inside ++ rest else
-    rest in
-    if beyond file at end then [] else field
+    let fields = held inside file at ++ rest in
+    if beyond file at end then [] else fields
 
--- the requests of a file
+-- the requests of a file; "16 file too long, first of all": a file that is too long holds none
 unfoldable pub requestsOf : List ℕ → List Span
-requestsOf file = requestsIn (length file) file 0 (length file)
+requestsOf file = if ltb mostFile (length file) then [] else requestsIn (length file) file 0 (length file)
 
 -- "how many requests a job holds, through all its groups"
 abbrev pub requestCount : List ℕ → ℕ

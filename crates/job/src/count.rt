@@ -9,8 +9,9 @@ use crate::field::HEAD_SIZE;
 use crate::field::REQUEST;
 use crate::field::Reach;
 use crate::field::reach_of;
+use crate::verdict::MOST_FILE;
 
-// The requests of the fields from a place up to `end`.
+// The requests of the fields from a place up to `end`: those of the first field, and those of the rest.
 fn count_fields(file: &[u8], at: usize, end: usize) -> usize
     requires { ⌜ (at ≤ end) × (end ≤ length (now file)) ⌝ }
     ensures { λ r. ⌜ Counts r (now (file .entry)) at end ⌝ }
@@ -21,18 +22,25 @@ fn count_fields(file: &[u8], at: usize, end: usize) -> usize
     };
     let value = at + HEAD_SIZE;
     let next = value + size;
-    let rest = count_fields(file, next, end);
     let tag = file[at];
-    match tag {
-        REQUEST => 1 + rest,
-        GROUP => count_fields(file, value, next) + rest,
-        _ => rest,
+    let held = match tag {
+        REQUEST => 1,
+        GROUP => count_fields(file, value, next),
+        _ => 0,
+    };
+    if next == end {
+        return held;
     }
+    held + count_fields(file, next, end)
 }
 
-// The requests of a file of any bytes; a field that goes beyond what encloses it ends them there.
+// The requests of a file of any bytes; a field that goes beyond what encloses it ends them there. A file that is too long is refused
+// first of all and holds none, so that the calls inside each other are no more than an accepted file can have.
 pub fn count_requests(file: &[u8]) -> usize
     ensures { λ r. ⌜ r ≡ requestCount (now (file .entry)) ⌝ }
 {
+    if file.len() > MOST_FILE {
+        return 0;
+    }
     count_fields(file, 0, file.len())
 }

@@ -27,7 +27,7 @@ pub enum Reach {
 }
 
 // How far the field at a place reaches in what ends at `end`.
-pub fn reach_of(file: &[u8], at: usize, end: usize) -> Reach
+pub(crate) fn reach_of(file: &[u8], at: usize, end: usize) -> Reach
     requires { ⌜ (at ≤ end) × (end ≤ length (now file)) ⌝ }
     ensures { λ r. ⌜ r ≡ reachOf (now (file .entry)) at end ⌝ }
 {

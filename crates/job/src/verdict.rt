@@ -11,7 +11,7 @@ use crate::field::Reach;
 use crate::field::reach_of;
 use crate::field::tag_refusal;
 
-const MOST_FILE: usize = 16384;
+pub const MOST_FILE: usize = 16384;
 
 // Accepted, or the number of the refusal and the offset of the bad field's tag.
 pub enum Verdict {

@@ -1,14 +1,15 @@
 -- `job::verdict::read_fields` and `read_field` meet their contracts: each arm is a line of `fieldsVerdict` or of `fieldVerdict`, at every
 -- bound that is large enough. They call each other; bytes left and depth left, added, are the number that falls.
 -- Assumes nothing.
-use mathlib.Core.Path.{sym, _∙_}
+use mathlib.Core.Path.{_≡_, sym, _∙_}
 use Prim.Native.Nat.{ℕ, _+_, _-_, _≤_, _<_}
 use native.Mathlib.Omega.{arith}
 use borrow.Author.Needs.{needs}
+use Rattle.job.specs.Field.{tagAt, lengthAt, tagRefusal}
 use Rattle.job.specs.Verdict.{Verdict}
 use Rattle.job.specs.Read.{ReadsFields}
-use Rattle.job.proofs.FieldLaws.{went-beyond, within, field-beyond, field-bad, field-single, field-group, group-depth}
-use Rattle.job.proofs.VerdictLaws.{fields-none, fields-bad, fields-next, next-bounds, read-bad, read-next, held}
+use Rattle.job.proofs.FieldLaws.{Inside, went-beyond, within, field-beyond, field-bad, field-single, group-depth}
+use Rattle.job.proofs.VerdictLaws.{fields-none, fields-bad, fields-next, next-bounds, read-bad, read-next, group-held}
 use borrow.Fn.Kinds.{In}
 use borrow.Fn.PlainCycle.{Measures, is, falls, and}
 use Rattle.job.proofs.verdict.read_field.Reads as read-field
@@ -52,33 +53,58 @@ read-fields-Inv-loop file at end depth next₀ next =
 abbrev read-fields-μ-loop : read-fields-lts.MeasureT-loop
 read-fields-μ-loop file at end depth next₀ next = end - next
 
+abbrev field-claims : ℕ → read-field-lts.Claims
+field-claims t =
+    (reach-of-reads.Asked, reach-of-reads.Learnt, tag-refusal-reads.Asked, tag-refusal-reads.Learnt, read-fields-below t, read-fields.Post)
+
+module _ (t : ℕ) where
+  -- the field lies within what encloses it
+  inside : (c : read-field-lts.After-known-told (field-claims t) (read-field-at t) read-field.Post) →
+      let a = c .before .before .before .before .before .args in
+      Inside (a .file .now) (a .at) (a .end) (c .before .size .given .0 .0)
+  inside c = within _ _ _ _ _ (c .before .before .before .reach-of .ensures) (c .before .size .given .1)
+
+  -- its tag refuses nothing
+  passed : (c : read-field-lts.Else1 (field-claims t) (read-field-at t) read-field.Post) →
+      let a = c .before .before .before .before .before .before .before .before .args in
+      tagRefusal (tagAt (a .file .now) (a .at)) (lengthAt (a .file .now) (a .at)) (a .depth) ≡ 0
+  passed c = rw (← inside (c .before .before .before) .sized) (sym (c .before .tag-refusal .ensures) ∙ c .if1 .left)
+
 pub +read-field+read-fields-spec : {M : Type 1} → statement M
-+read-field+read-fields-spec = close μ-read-field μ-read-fields (λ t. read-field-lts.spec (
-  reach-of-reads.Asked,
-  reach-of-reads.Learnt,
-  tag-refusal-reads.Asked,
-  tag-refusal-reads.Learnt,
-  read-fields-below t,
-  read-fields.Post,
-)
++read-field+read-fields-spec = close μ-read-field μ-read-fields (λ t. read-field-lts.spec (field-claims t)
     (read-field-at t)
     read-field.Post
     (λ c κs. search needs)
     (λ c. search needs)
     (λ c. search needs)
     (λ c n h. read-bad _ _ _ _ (field-beyond _ _ _ _ _ (went-beyond _ _ _ _ (c .before .before .reach-of .ensures) (c .enum-told .given .1))))
-    (λ c. let i = within _ _ _ _ _ (c .before .before .before .before .reach-of .ensures) (c .before .before .size .given .1) in omega (arith, i .head-fits))
+    (λ c. omega (arith, inside t (c .before) .head-fits))
     (λ c κs. search needs)
-    (λ c n h. let i = within _ _ _ _ _ (c .before .before .before .before .before .before .reach-of .ensures) (c .before .before .before .before .size .given .1) in read-bad _ _ _ _ (field-bad _ _ _ _ _ _ (i .not-beyond) (rw (← i .sized) (sym (c .before .tag-refusal .ensures))) (c .if1 .taken)))
-    (λ c. let i = within _ _ _ _ _ (c .before .before .before .before .before .before .reach-of .ensures) (c .before .before .before .before .size .given .1) in omega (arith, i .head-fits))
-    (λ c. let i = within _ _ _ _ _ (c .before .before .before .before .before .before .reach-of .ensures) (c .before .before .before .before .size .given .1) in omega (arith, i .value-fits))
-    (λ c n h. let i = within _ _ _ _ _ (c .before .before .before .before .before .before .before .reach-of .ensures) (c .before .before .before .before .before .size .given .1) in read-next _ _ _ (field-single _ _ _ _ _ (i .not-beyond) (rw (← i .sized) (sym (c .before .before .tag-refusal .ensures) ∙ c .before .if1 .left)) (c .if2 .taken)) (omega (arith, i .sized)))
+    (λ c n h.
+    let i = inside t (c .before .before .before) in
+    read-bad _ _ _ _ (field-bad _ _ _ _ _ _ (i .not-beyond) (rw (← i .sized) (sym (c .before .tag-refusal .ensures))) (c .if1 .taken)))
+    (λ c. omega (arith, inside t (c .before .before .before) .head-fits))
+    (λ c. omega (arith, inside t (c .before .before .before) .value-fits))
+    (λ c n h.
+    let i = inside t (c .before .before .before .before) in
+    read-next _ _ _ (field-single _ _ _ _ _ (i .not-beyond) (passed t (c .before)) (c .if2 .taken)) (omega (arith, i .sized)))
     (λ c. omega arith)
-    (λ c κs. let i = within _ _ _ _ _ (c .before .before .before .before .before .before .before .reach-of .ensures) (c .before .before .before .before .before .size .given .1) in let d = group-depth _ _ (rw (c .if2 .left) at (sym (c .before .before .tag-refusal .ensures) ∙ c .before .if1 .left)) in (omega (arith, i .value-fits, d), (omega arith, omega (arith, i .value-fits), omega (arith, d))))
+    (λ c κs.
+    let i = inside t (c .before .before .before .before) in
+    let d = group-depth _ _ (rw (c .if2 .left) at (passed t (c .before))) in
+    (omega (arith, i .value-fits, d), (omega arith, omega (arith, i .value-fits), omega (arith, d))))
     (λ c. search needs)
     (λ c. search needs)
-    (λ c n h. let i = within _ _ _ _ _ (c .before .before .before .before .before .before .before .before .before .before .reach-of .ensures) (c .before .before .before .before .before .before .before .before .size .given .1) in read-next _ _ _ (field-group _ _ _ _ _ (i .not-beyond) (rw (← i .sized) (sym (c .before .before .before .before .before .tag-refusal .ensures) ∙ c .before .before .before .before .if1 .left)) (c .before .before .before .if2 .left) ∙ sym (held _ _ _ _ _ (i .sized) (c .before .before .read-fields .ensures) n (omega (arith, i .sized, i .value-fits))) ∙ c .enum-told2 .given .1) (omega (arith, i .sized)))
-    (λ c n h. let i = within _ _ _ _ _ (c .before .before .before .before .before .before .before .before .before .before .before .reach-of .ensures) (c .before .before .before .before .before .before .before .before .before .size .given .1) in read-bad _ _ _ _ (field-group _ _ _ _ _ (i .not-beyond) (rw (← i .sized) (sym (c .before .before .before .before .before .before .tag-refusal .ensures) ∙ c .before .before .before .before .before .if1 .left)) (c .before .before .before .before .if2 .left) ∙ sym (held _ _ _ _ _ (i .sized) (c .before .before .before .read-fields .ensures) n (omega (arith, i .sized, i .value-fits))) ∙ c .before .inner .given .1)))
+    (λ c n h.
+    let g = c .before .before .before in
+    let i = inside t (g .before .before .before .before) in
+    let v = group-held _ _ _ _ _ i (passed t (g .before)) (g .if2 .left) _ (c .before .before .read-fields .ensures) n h in
+    read-next _ _ _ (v ∙ c .enum-told2 .given .1) (omega (arith, i .sized)))
+    (λ c n h.
+    let g = c .before .before .before .before in
+    let i = inside t (g .before .before .before .before) in
+    let v = group-held _ _ _ _ _ i (passed t (g .before)) (g .if2 .left) _ (c .before .before .before .read-fields .ensures) n h in
+    read-bad _ _ _ _ (v ∙ c .before .inner .given .1)))
     λ t. read-fields-lts.spec
     (read-field-below t, read-field.Post)
     (read-fields-at t)
@@ -89,8 +115,13 @@ pub +read-field+read-fields-spec : {M : Type 1} → statement M
     (λ c κs. (omega arith, (omega arith, omega arith, omega arith)))
     (λ c. search needs)
     (λ c. let b = next-bounds _ _ _ _ _ (c .before .before .before .read-field .ensures) _ (c .before .place .given .1) in omega (arith, b))
-    (λ c. let b = next-bounds _ _ _ _ _ (c .before .before .before .read-field .ensures) _ (c .before .place .given .1) in
-    (omega (arith, b), b .1, λ v r. c .before .before .before .before .before .loop .inv .2 v (fields-next _ _ _ _ _ (c .before .before .before .read-field .ensures) _ _ (omega arith) (c .before .place .given .1) r)))
+    (λ c.
+    let f = c .before .before .before in
+    let b = next-bounds _ _ _ _ _ (f .read-field .ensures) _ (c .before .place .given .1) in
+    let whole = f .before .before .loop .inv .2 in
+    (omega (arith, b), b .1, λ v r. whole v (fields-next _ _ _ _ _ (f .read-field .ensures) _ _ (omega arith) (c .before .place .given .1) r)))
     (λ c. search needs)
-    (λ c. c .before .before .before .before .before .loop .inv .2 _ (fields-bad _ _ _ _ _ (c .before .before .before .read-field .ensures) _ _ (omega arith) (c .before .number .given .1)))
+    (λ c.
+    let f = c .before .before .before in
+    f .before .before .loop .inv .2 _ (fields-bad _ _ _ _ _ (f .read-field .ensures) _ _ (omega arith) (c .before .number .given .1)))
     (λ c. c .before .loop .inv .2 _ (λ n h. fields-none _ _ _ _ _ (omega arith)))

@@ -1,3 +1,0 @@
--- The definitions of the bench program, and how it runs a job.
-pub mod Bench
-pub mod Run

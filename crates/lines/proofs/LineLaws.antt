@@ -1,0 +1,77 @@
+-- The lines of the bench program: how long they are, and the pieces that they are put together from.
+-- Assumes nothing.
+use mathlib.Core.Path.{_≡_, refl}
+use mathlib.Core.List.{List, [], _∷_, _++_, append-assoc}
+use Prim.Native.Nat.{ℕ, _+_, _≤_}
+use native.Mathlib.Omega.{arith}
+use lib.ListN.{length, length-append}
+use Rattle.lines.specs.Text.{mostDigits, ascii, decimal, hexByte, hexBytes}
+use Rattle.lines.specs.Line.{Word, Done, Stall, Start, Refused, wordText, replyText, space, requestLine, jobLine, refusedLine}
+use Rattle.lines.specs.Line.{mostLine, mostJobLine, mostRefusedLine}
+use Rattle.lines.specs.Room.{requestSize, jobSize, refusedSize}
+use Rattle.lines.proofs.TextLaws.{length-decimal, length-hexBytes}
+
+module _ (n : ℕ) (w : Word) (st s p : ℕ) (r : List ℕ) where
+  -- each piece with the space after it
+  pub requestLine-pieces :
+      decimal n ++ space ++ (wordText w ++ space) ++ (decimal st ++ space) ++ hexByte s ++ space ++ (decimal p ++ space) ++ replyText r
+      ++ ascii "\n" ≡ requestLine n w st s p r
+  unfolding requestLine
+  requestLine-pieces = simp append-assoc
+
+  pub length-requestLine : length (requestLine n w st s p r) ≡ requestSize n w st p r
+  unfolding requestLine
+  length-requestLine = simp length-append (omega arith)
+
+pub jobLine-pieces : (n : ℕ) → ascii "job " ++ (decimal n ++ ascii "\n") ≡ jobLine n
+unfolding jobLine
+jobLine-pieces n = simp append-assoc
+
+pub length-jobLine : (n : ℕ) → length (jobLine n) ≡ jobSize n
+unfolding jobLine
+length-jobLine n = simp length-append (omega arith)
+
+pub refusedLine-pieces : (k p : ℕ) → ascii "refused " ++ (decimal k ++ space) ++ ascii "at " ++ (decimal p ++ ascii "\n") ≡ refusedLine k p
+unfolding refusedLine
+refusedLine-pieces k p = simp append-assoc
+
+pub length-refusedLine : (k p : ℕ) → length (refusedLine k p) ≡ refusedSize k p
+unfolding refusedLine
+length-refusedLine k p = simp length-append (omega arith)
+
+pub length-wordText : (w : Word) → length (wordText w) ≤ 3 + mostDigits
+length-wordText Done = omega arith
+length-wordText Stall = omega arith
+length-wordText Start = omega arith
+length-wordText (Refused k) = omega (arith, length-decimal k)
+
+-- a reply of no bytes, and any other
+pub replyText-none : (r : List ℕ) → length r ≡ 0 → replyText r ≡ ascii "-"
+replyText-none [] h = refl
+replyText-none (b ∷ bs) h = absurd (omega arith)
+
+pub replyText-some : (r : List ℕ) → (length r ≡ 0 → ⊥) → replyText r ≡ hexBytes r
+replyText-some [] h = absurd (h refl)
+replyText-some (b ∷ bs) h = refl
+
+replyText-le : (r : List ℕ) → length r ≤ 1024 → length (replyText r) ≤ 2048
+replyText-le [] h = omega arith
+replyText-le (b ∷ bs) h = omega (arith, length-hexBytes (b ∷ bs))
+
+-- the room that a line needs at most; the last two are 25 and 53 bytes
+pub requestLine-le : (n : ℕ) (w : Word) (st s p : ℕ) (r : List ℕ) → length r ≤ 1024 → length (requestLine n w st s p r) ≤ mostLine
+requestLine-le n w st s p r h = omega (
+  arith,
+  length-requestLine n w st s p r,
+  length-decimal n,
+  length-decimal st,
+  length-decimal p,
+  length-wordText w,
+  replyText-le r h,
+)
+
+pub jobLine-le : (n : ℕ) → length (jobLine n) ≤ mostJobLine
+jobLine-le n = omega (arith, length-jobLine n, length-decimal n)
+
+pub refusedLine-le : (k p : ℕ) → length (refusedLine k p) ≤ mostRefusedLine
+refusedLine-le k p = omega (arith, length-refusedLine k p, length-decimal k, length-decimal p)

@@ -1,0 +1,45 @@
+-- The lines of the bench program. Assumes nothing: these are definitions.
+use mathlib.Core.List.{List, [], _∷_, _++_}
+use Prim.Native.Nat.{ℕ}
+use Rattle.lines.specs.Text.{ascii, decimal, hexByte, hexBytes}
+pub use Rattle.lines.specs.declared.line.Word.{Word}
+pub use Rattle.lines.specs.declared.line.Word.the-variants.{Done, Stall, Start, Refused}
+
+-- "`done` .. , `stall`, `start` or `refK`"
+abbrev pub wordText : Word → List ℕ
+wordText Done = ascii "done"
+wordText Stall = ascii "stall"
+wordText Start = ascii "start"
+wordText (Refused k) = ascii "ref" ++ decimal k
+
+-- "reply in capital hex or `-`"
+abbrev pub replyText : List ℕ → List ℕ
+replyText [] = ascii "-"
+replyText (b ∷ bs) = hexBytes (b ∷ bs)
+
+abbrev pub space : List ℕ
+space = ascii " "
+
+-- "number from 1, .. state after it, status (two capital hex digits), pages, reply"
+unfoldable pub requestLine : ℕ → Word → ℕ → ℕ → ℕ → List ℕ → List ℕ
+requestLine number word state status pages reply =
+    decimal number ++ space ++ wordText word ++ space ++ decimal state ++ space ++ hexByte status ++ space
+    ++ decimal pages ++ space ++ replyText reply ++ ascii "\n"
+
+-- no line for a reply of at most 1,024 bytes is longer; proved in proofs/LineLaws.antt
+abbrev pub mostLine : ℕ
+mostLine = 2139
+
+-- nor the lines that state the count and a refusal
+abbrev pub mostJobLine : ℕ
+mostJobLine = 25
+
+abbrev pub mostRefusedLine : ℕ
+mostRefusedLine = 53
+
+-- "`job N`", "`refused K at P`"
+unfoldable pub jobLine : ℕ → List ℕ
+jobLine n = ascii "job " ++ decimal n ++ ascii "\n"
+
+unfoldable pub refusedLine : ℕ → ℕ → List ℕ
+refusedLine k p = ascii "refused " ++ decimal k ++ ascii " at " ++ decimal p ++ ascii "\n"

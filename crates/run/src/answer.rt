@@ -1,0 +1,84 @@
+// What is written for a job.
+ghost use mathlib.Core.Path.{_≡_};
+ghost use Prim.Native.Nat.{_≤_};
+ghost use lib.ListN.{length, replicate};
+ghost use Rattle.board.specs.Memory.{eepromSize, blankFlash};
+ghost use Rattle.job.specs.Verdict.{verdict};
+ghost use Rattle.job.specs.declared.verdict.Verdict.the-variants.{Accepted};
+ghost use Rattle.loader.specs.Refusals.{replySize};
+ghost use Rattle.lines.specs.Room.{Stands};
+ghost use Rattle.run.specs.Bench.{writtenFor, bench};
+ghost use Rattle.run.specs.Run.{mostOutput, answerPut, answerRoom};
+use crate::run::end_of;
+use crate::run::run_all;
+use board::EEPROM_SIZE;
+use board::FLASH_SIZE;
+use job::Verdict;
+use job::check_job;
+use job::count_requests;
+use lines::Put;
+use lines::job_line;
+use lines::refused_line;
+
+const REPLY_SIZE: usize = 1024;
+
+// "room too short"
+const TOO_SHORT: u8 = 9;
+
+// No answer is longer: the line that states the count, and 1,490 lines of requests.
+pub const MOST_OUTPUT: usize = 25 + 2139 * 1490;
+
+// "all memory FFh"
+fn blank_flash() -> [u8; FLASH_SIZE]
+    ensures { λ r. ⌜ r ≡ blankFlash ⌝ }
+{
+    [0xFF; FLASH_SIZE]
+}
+
+fn blank_eeprom() -> [u8; EEPROM_SIZE]
+    ensures { λ r. ⌜ r ≡ replicate eepromSize 0xFF ⌝ }
+{
+    [0xFF; EEPROM_SIZE]
+}
+
+fn reply_buffer() -> [u8; REPLY_SIZE]
+    ensures { λ r. ⌜ length r ≡ replySize ⌝ }
+{
+    [0; REPLY_SIZE]
+}
+
+// States the count, and runs the job on "a delivered board, all memory FFh".
+fn run_accepted(file: &[u8], room: &mut [u8]) -> usize
+    requires { ⌜ verdict (now file) ≡ Accepted ⌝ }
+    requires { ⌜ mostOutput ≤ length (now room) ⌝ }
+    ensures { λ r. ⌜ Stands 0 (writtenFor (now (file .entry)) Accepted) (now (room .entry)) r (now (room .exit)) ⌝ }
+{
+    let place = end_of(job_line(count_requests(file), room, 0));
+    let mut flash = blank_flash();
+    let mut eeprom = blank_eeprom();
+    let mut reply = reply_buffer();
+    run_all(file, &mut flash, &mut eeprom, &mut reply, room, place)
+}
+
+// Writes what answers a file of any bytes at the start of the room, and gives its length.
+fn write_whole(file: &[u8], room: &mut [u8]) -> usize
+    requires { ⌜ mostOutput ≤ length (now room) ⌝ }
+    ensures { λ r. ⌜ Stands 0 (bench (now (file .entry))) (now (room .entry)) r (now (room .exit)) ⌝ }
+{
+    match check_job(file) {
+        Verdict::Accepted => run_accepted(file, room),
+        Verdict::Refused(number, place) => end_of(refused_line(number, place, room, 0)),
+    }
+}
+
+// Writes what answers a file of any bytes at the start of the room, and gives the place after it. Refuses a room that is shorter than
+// the longest answer with 9; then the room stays as it was, and otherwise the room past the answer does.
+pub fn write_answer(file: &[u8], room: &mut [u8]) -> Put
+    ensures { λ r. ⌜ r ≡ answerPut (now (file .entry)) (now (room .entry)) ⌝ }
+    ensures { λ _. ⌜ now (room .exit) ≡ answerRoom (now (file .entry)) (now (room .entry)) ⌝ }
+{
+    if room.len() < MOST_OUTPUT {
+        return Put::Unwritten(TOO_SHORT);
+    }
+    Put::Upto(write_whole(file, room))
+}
