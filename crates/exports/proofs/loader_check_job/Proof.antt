@@ -12,10 +12,14 @@ told : (v x : Verdict) → x ≡ v → (verdictTold x ≡ verdictTold v) × (pla
 told v x q = (rw q, rw q)
 
 returns : tie.Need-returns
-returns c = told (verdict (c .before .before .before .before .args .file .now)) _ (sym (c .enum-told .given .1) ∙ c .before .before .check-job .ensures)
+returns c =
+    let checked = c .before .before in
+    told (verdict (checked .before .before .args .file .now)) _ (sym (c .enum-told .given .1) ∙ checked .check-job .ensures)
 
 returns-2 : tie.Need-returns-2
-returns-2 c = told (verdict (c .before .before .before .before .before .args .file .now)) _ (sym (c .before .number .given .1) ∙ c .before .before .before .check-job .ensures)
+returns-2 c =
+    let checked = c .before .before .before in
+    told (verdict (checked .before .before .args .file .now)) _ (sym (c .before .number .given .1) ∙ checked .check-job .ensures)
 
 pub loader-check-job-spec : {M : Type 1} → statement M
 loader-check-job-spec = tie.close (tie.spec (λ c κs. search needs) (λ c. search needs) (λ c. search needs) returns returns-2)
