@@ -13,8 +13,8 @@ use Rattle.words.specs.Words.{if_then_else_, byteAt, highFirst}
 use Rattle.board.specs.Config.{readable, writable}
 use Rattle.board.specs.declared.address.Block.{Block}
 use Rattle.board.specs.declared.address.Block.the-variants.{Low, Middle, High}
-use Rattle.command.specs.Form.{Command, Program, Read, BlankCheck, EraseBlock, EraseChip, WriteByte, WriteHsb, StartReset, StartAt, ReadVersion, ReadByte, ReadHsb, flashAt, flashRange, eepromRange, exactly, sixOrMore, form}
-use Rattle.command.specs.Writer.{blockCode}
+use Rattle.command.specs.Form.{Command, Program, Read, BlankCheck, EraseBlock, EraseChip, WriteByte, WriteHsb, StartReset, StartAt, ReadVersion, ReadByte}
+use Rattle.command.specs.Form.{ReadHsb, blockCode, flashAt, flashRange, eepromRange, exactly, sixOrMore, form}
 
 -- the rows of the table, each with what is known of data of that form
 pub data Formed (p : List ℕ) : Command → Type 0 where

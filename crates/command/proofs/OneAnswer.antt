@@ -12,7 +12,8 @@ use Rattle.command.proofs.reader.read_command.Reads as read-command
 use Rattle.command.proofs.transfer.range_count.Reads as range-count
 use Rattle.command.proofs.transfer.body_place.Reads as body-place
 use Rattle.command.proofs.transfer.wrong_length.Reads as wrong-length
-use Rattle.command.proofs.writer.write_command.Reads as write-command
+use Rattle.command.proofs.reader.reading_status.Reads as reading-status
+use Rattle.command.proofs.transfer.transfer_of.Reads as transfer-of
 
 pub of-bad-range : (κs : _) (a : _) (r r′ : _) (s s′ : _) → bad-range.Post κs a r s → bad-range.Post κs a r′ s′ → r ≡ r′
 of-bad-range κs a r r′ s s′ p q = one p q
@@ -41,5 +42,8 @@ of-body-place κs a r r′ s s′ p q = one p q
 pub of-wrong-length : (κs : _) (a : _) (r r′ : _) (s s′ : _) → wrong-length.Post κs a r s → wrong-length.Post κs a r′ s′ → r ≡ r′
 of-wrong-length κs a r r′ s s′ p q = one p q
 
-pub of-write-command : (κs : _) (a : _) (r r′ : _) (s s′ : _) → write-command.Post κs a r s → write-command.Post κs a r′ s′ → (r ≡ r′) × (s .1 .1 .1 .0 .now ≡ s′ .1 .1 .1 .0 .now)
-of-write-command κs a r r′ s s′ p q = (one (p .0) (q .0), one (p .1) (q .1))
+pub of-reading-status : (κs : _) (a : _) (r r′ : _) (s s′ : _) → reading-status.Post κs a r s → reading-status.Post κs a r′ s′ → r ≡ r′
+of-reading-status κs a r r′ s s′ p q = one p q
+
+pub of-transfer-of : (κs : _) (a : _) (r r′ : _) (s s′ : _) → transfer-of.Post κs a r s → transfer-of.Post κs a r′ s′ → r ≡ r′
+of-transfer-of κs a r r′ s s′ p q = one p q

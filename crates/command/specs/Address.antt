@@ -4,8 +4,9 @@ use Prim.Native.Nat.{ℕ}
 use lib.Dec.{leb, ltb}
 use Rattle.board.specs.declared.address.Range.{Range}
 use Rattle.board.specs.declared.address.FlashAddress.{FlashAddress}
-use Rattle.board.specs.Memory.{flashSize, lastFlash, rangeStart, rangeEnd, rangeCount, memorySize}
-use Rattle.command.specs.Form.{Command, Program, Read, BlankCheck, EraseBlock, EraseChip, WriteByte, WriteHsb, StartReset, StartAt, ReadVersion, ReadByte, ReadHsb}
+use Rattle.board.specs.Memory.{lastFlash, rangeStart, rangeEnd, rangeCount, memorySize}
+use Rattle.command.specs.Form.{Command, Program, Read, BlankCheck, EraseBlock, EraseChip, WriteByte, WriteHsb, StartReset, StartAt, ReadVersion, ReadByte}
+use Rattle.command.specs.Form.{ReadHsb}
 
 -- "over 1,024 bytes"
 abbrev pub mostBytes : ℕ
@@ -15,13 +16,13 @@ mostBytes = 1024
 abbrev pub badRange : Range → Bool
 badRange r = ltb (rangeEnd r) (rangeStart r) || leb (memorySize r) (rangeEnd r) || ltb mostBytes (rangeCount r)
 
--- "backward, outside": "over 1,024 bytes" does not count for a "blank check", which may be as long as the flash
-abbrev pub badCheck : FlashAddress → FlashAddress → Bool
-badCheck a e = ltb (e .0) (a .0) || leb flashSize (e .0)
-
 -- "above 7FFFh"
 abbrev pub pastFlash : FlashAddress → Bool
 pastFlash a = ltb lastFlash (a .0)
+
+-- "backward, outside": "over 1,024 bytes" does not count for a "blank check", which may be as long as the flash
+abbrev pub badCheck : FlashAddress → FlashAddress → Bool
+badCheck a e = ltb (e .0) (a .0) || pastFlash e
 
 -- "address (backward, outside, over 1,024 bytes except blank check, or start above 7FFFh: 08h)"
 abbrev pub badAddress : Command → Bool
@@ -37,3 +38,7 @@ badAddress (StartAt a) = pastFlash a
 badAddress ReadVersion = false
 badAddress (ReadByte i) = false
 badAddress ReadHsb = false
+
+-- ".. : 08h)": the status of such a command
+abbrev pub badAddressStatus : ℕ
+badAddressStatus = 0x08

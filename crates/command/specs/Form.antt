@@ -11,12 +11,14 @@ use Rattle.board.specs.declared.address.FlashAddress.{FlashAddress}
 use Rattle.board.specs.declared.address.EepromAddress.{EepromAddress}
 use Rattle.board.specs.declared.address.Range.{Range}
 use Rattle.board.specs.declared.address.Range.the-variants.{Flash, Eeprom}
+use Rattle.board.specs.declared.address.Block.{Block}
 use Rattle.board.specs.declared.address.Block.the-variants.{Low, Middle, High}
 use Rattle.board.specs.Config.{readable, writable}
 pub use Rattle.command.specs.declared.form.Form.{Form}
 pub use Rattle.command.specs.declared.form.Form.the-variants.{Is, Unlisted}
 pub use Rattle.command.specs.declared.command.Command.{Command}
-pub use Rattle.command.specs.declared.command.Command.the-variants.{Program, Read, BlankCheck, EraseBlock, EraseChip, WriteByte, WriteHsb, StartReset, StartAt, ReadVersion, ReadByte, ReadHsb}
+pub use Rattle.command.specs.declared.command.Command.the-variants.{Program, Read, BlankCheck, EraseBlock, EraseChip, WriteByte, WriteHsb, StartReset}
+pub use Rattle.command.specs.declared.command.Command.the-variants.{StartAt, ReadVersion, ReadByte, ReadHsb}
 
 -- "Addresses .. are high byte first": the address that stands at i
 abbrev pub flashAt : List ℕ → ℕ → FlashAddress
@@ -40,12 +42,18 @@ exactly n d k = if eqb (length d) n then some k else none
 abbrev pub sixOrMore : List ℕ → Command → Option Command
 sixOrMore d k = if leb 6 (length d) then some k else none
 
--- "04h, 00h, 00h / 20h / 40h / FFh": the third byte of an erase
+-- "00h / 20h / 40h": the third byte of a block's erase
+abbrev pub blockCode : Block → ℕ
+blockCode Low = 0x00
+blockCode Middle = 0x20
+blockCode High = 0x40
+
+-- "04h, 00h, 00h / 20h / 40h / FFh"
 abbrev pub eraseForm : List ℕ → Option Command
 eraseForm d =
-    if eqb (byteAt d 2) 0x00 then exactly 3 d (EraseBlock Low) else
-    if eqb (byteAt d 2) 0x20 then exactly 3 d (EraseBlock Middle) else
-    if eqb (byteAt d 2) 0x40 then exactly 3 d (EraseBlock High) else
+    if eqb (byteAt d 2) (blockCode Low) then exactly 3 d (EraseBlock Low) else
+    if eqb (byteAt d 2) (blockCode Middle) then exactly 3 d (EraseBlock Middle) else
+    if eqb (byteAt d 2) (blockCode High) then exactly 3 d (EraseBlock High) else
     if eqb (byteAt d 2) 0xFF then exactly 3 d EraseChip else
     none
 
@@ -56,9 +64,24 @@ startForm d =
     if eqb (byteAt d 2) 0x01 then exactly 5 d (StartAt (flashAt d 3)) else
     none
 
--- a row whose third byte is of a kind
+-- a row whose third byte is of a kind, and one whose third byte is 00h
 abbrev pub third : Bool → Option Command → Option Command
 third right k = if right then k else none
+
+abbrev pub zeroThird : ℕ → List ℕ → Command → Option Command
+zeroThird n d k = third (eqb (byteAt d 2) 0x00) (exactly n d k)
+
+-- "03h, 01h, start, end"
+abbrev pub blankForm : List ℕ → Option Command
+blankForm d = exactly 6 d (BlankCheck (flashAt d 2) (flashAt d 4))
+
+-- "04h, 01h, index 00h-06h, value"
+abbrev pub writeForm : List ℕ → Option Command
+writeForm d = third (writable (byteAt d 2)) (exactly 4 d (WriteByte (byteAt d 2) (byteAt d 3)))
+
+-- "05h, 01h, index 00h-06h, 30h, 31h, 60h, 61h"
+abbrev pub indexForm : List ℕ → Option Command
+indexForm d = third (readable (byteAt d 2)) (exactly 3 d (ReadByte (byteAt d 2)))
 
 -- the rows of the table by their first two bytes, "01h, 00h" being 0100h; "unlisted codes and lengths stall": none
 abbrev pub row : ℕ → List ℕ → Option Command
@@ -67,14 +90,14 @@ row code d =
     if eqb code 0x0101 then sixOrMore d (Program (eepromRange d)) else
     if eqb code 0x0300 then exactly 6 d (Read (flashRange d)) else
     if eqb code 0x0302 then exactly 6 d (Read (eepromRange d)) else
-    if eqb code 0x0301 then exactly 6 d (BlankCheck (flashAt d 2) (flashAt d 4)) else
+    if eqb code 0x0301 then blankForm d else
     if eqb code 0x0400 then eraseForm d else
-    if eqb code 0x0401 then third (writable (byteAt d 2)) (exactly 4 d (WriteByte (byteAt d 2) (byteAt d 3))) else
-    if eqb code 0x0402 then third (eqb (byteAt d 2) 0x00) (exactly 4 d (WriteHsb (byteAt d 3))) else
+    if eqb code 0x0401 then writeForm d else
+    if eqb code 0x0402 then zeroThird 4 d (WriteHsb (byteAt d 3)) else
     if eqb code 0x0403 then startForm d else
-    if eqb code 0x0500 then third (eqb (byteAt d 2) 0x00) (exactly 3 d ReadVersion) else
-    if eqb code 0x0501 then third (readable (byteAt d 2)) (exactly 3 d (ReadByte (byteAt d 2))) else
-    if eqb code 0x0502 then third (eqb (byteAt d 2) 0x00) (exactly 3 d ReadHsb) else
+    if eqb code 0x0500 then zeroThird 3 d ReadVersion else
+    if eqb code 0x0501 then indexForm d else
+    if eqb code 0x0502 then zeroThird 3 d ReadHsb else
     none
 
 unfoldable pub form : List ℕ → Option Command

@@ -5,11 +5,21 @@ use Prim.Native.Nat.{ℕ}
 use lib.ListN.{length}
 use Rattle.words.specs.Words.{if_then_else_}
 use Rattle.command.specs.Form.{form, Command}
-use Rattle.command.specs.Address.{badAddress}
+use Rattle.command.specs.Address.{badAddress, badAddressStatus}
 use Rattle.command.specs.Transfer.{Transfer, Of, NoTransfer, transferOf, bodyPlace, suffixPlace, badLength}
 pub use Rattle.command.specs.declared.reader.Parts.{Parts}
 pub use Rattle.command.specs.declared.reader.Reading.{Reading}
 pub use Rattle.command.specs.declared.reader.Reading.the-variants.{Taken, Stalls, BadAddress}
+
+-- "Stall: state 10, status 0Fh"
+abbrev pub stallStatus : ℕ
+stallStatus = 0x0F
+
+-- the paper's number of each answer: "status 00h" for a command that is taken, "stall or 08h"
+abbrev pub readingStatus : Reading → ℕ
+readingStatus (Taken k p) = 0x00
+readingStatus Stalls = stallStatus
+readingStatus BadAddress = badAddressStatus
 
 abbrev pub parts : ℕ → ℕ → Parts
 parts b s = record { body = b; suffix = s }
@@ -35,7 +45,3 @@ readForm (some k) d =
 
 unfoldable pub readCommand : List ℕ → Reading
 readCommand d = readForm (form d) d
-
--- 08h, of the answer that has a status
-abbrev pub badAddressStatus : ℕ
-badAddressStatus = 0x08

@@ -7,7 +7,8 @@ use lib.Dec.{eqb}
 use lib.ListN.{length, take, drop}
 use Rattle.board.specs.declared.address.Range.{Range}
 use Rattle.board.specs.Memory.{rangeStart, rangeCount}
-use Rattle.command.specs.Form.{Command, Program, Read, BlankCheck, EraseBlock, EraseChip, WriteByte, WriteHsb, StartReset, StartAt, ReadVersion, ReadByte, ReadHsb}
+use Rattle.command.specs.Form.{Command, Program, Read, BlankCheck, EraseBlock, EraseChip, WriteByte, WriteHsb, StartReset, StartAt, ReadVersion, ReadByte}
+use Rattle.command.specs.Form.{ReadHsb}
 pub use Rattle.command.specs.declared.transfer.Transfer.{Transfer}
 pub use Rattle.command.specs.declared.transfer.Transfer.the-variants.{Of, NoTransfer}
 

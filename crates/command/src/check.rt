@@ -11,6 +11,9 @@ use board::FLASH_SIZE;
 use board::FlashAddress;
 use board::Range;
 
+// "0000h to 7FFFh"
+const LAST_FLASH: u16 = 0x7FFF;
+
 fn bad_ends(start: u16, end: u16, size: usize) -> bool
     ensures { λ r. ⌜ r ≡ (ltb end start || leb size end || ltb mostBytes (count start end)) ⌝ }
 {
@@ -39,7 +42,7 @@ pub fn bad_range(range: Range) -> bool
 pub fn past_flash(address: FlashAddress) -> bool
     ensures { λ r. ⌜ r ≡ pastFlash address ⌝ }
 {
-    0x7FFF < address.0
+    LAST_FLASH < address.0
 }
 
 fn bad_check(start: FlashAddress, end: FlashAddress) -> bool
@@ -48,7 +51,7 @@ fn bad_check(start: FlashAddress, end: FlashAddress) -> bool
     if end.0 < start.0 {
         return true;
     }
-    0x8000 <= end.0
+    past_flash(end)
 }
 
 // Whether a command has an address that gives 08h.
@@ -59,14 +62,7 @@ pub fn bad_address(command: Command) -> bool
         Command::Program(range) => bad_range(range),
         Command::Read(range) => bad_range(range),
         Command::BlankCheck(start, end) => bad_check(start, end),
-        Command::EraseBlock(_) => false,
-        Command::EraseChip => false,
-        Command::WriteByte(_, _) => false,
-        Command::WriteHsb(_) => false,
-        Command::StartReset => false,
         Command::StartAt(address) => past_flash(address),
-        Command::ReadVersion => false,
-        Command::ReadByte(_) => false,
-        Command::ReadHsb => false,
+        _ => false,
     }
 }

@@ -1,9 +1,7 @@
 // The form of DNLOAD data: which command it is, by its first bytes and its length.
 ghost use mathlib.Core.Path.{_≡_};
-ghost use lib.Dec.{eqb};
-ghost use Rattle.words.specs.Words.{byteAt};
-ghost use Rattle.board.specs.Config.{readable, writable};
-ghost use Rattle.command.specs.Form.{form, formOf, exactly, sixOrMore, eraseForm, startForm, third, flashAt, flashRange, eepromRange};
+ghost use Rattle.command.specs.Form.{form, formOf, exactly, sixOrMore, zeroThird, flashRange, eepromRange};
+ghost use Rattle.command.specs.Form.{blankForm, eraseForm, writeForm, startForm, indexForm};
 use crate::command::Command;
 use board::Block;
 use board::EepromAddress;
@@ -57,7 +55,7 @@ fn six_or_more(sent: &[u8], command: Command) -> Form
 
 // A command whose third byte has to be 00h.
 fn zero_third(sent: &[u8], n: usize, command: Command) -> Form
-    ensures { λ r. ⌜ r ≡ formOf (third (eqb (byteAt (now (sent .entry)) 2) 0x00) (exactly n (now (sent .entry)) command)) ⌝ }
+    ensures { λ r. ⌜ r ≡ formOf (zeroThird n (now (sent .entry)) command) ⌝ }
 {
     let code = words::byte_at(sent, 2);
     if code != 0x00 {
@@ -67,7 +65,7 @@ fn zero_third(sent: &[u8], n: usize, command: Command) -> Form
 }
 
 fn blank_form(sent: &[u8]) -> Form
-    ensures { λ r. ⌜ r ≡ formOf (exactly 6 (now (sent .entry)) (Command.BlankCheck (flashAt (now (sent .entry)) 2) (flashAt (now (sent .entry)) 4))) ⌝ }
+    ensures { λ r. ⌜ r ≡ formOf (blankForm (now (sent .entry))) ⌝ }
 {
     let start = FlashAddress(words::high_at(sent, 2));
     let end = FlashAddress(words::high_at(sent, 4));
@@ -88,7 +86,7 @@ fn erase_form(sent: &[u8]) -> Form
 }
 
 fn write_form(sent: &[u8]) -> Form
-    ensures { λ r. ⌜ r ≡ formOf (third (writable (byteAt (now (sent .entry)) 2)) (exactly 4 (now (sent .entry)) (Command.WriteByte (byteAt (now (sent .entry)) 2) (byteAt (now (sent .entry)) 3)))) ⌝ }
+    ensures { λ r. ⌜ r ≡ formOf (writeForm (now (sent .entry))) ⌝ }
 {
     let index = words::byte_at(sent, 2);
     let value = words::byte_at(sent, 3);
@@ -113,8 +111,8 @@ fn start_form(sent: &[u8]) -> Form
     }
 }
 
-fn read_form(sent: &[u8]) -> Form
-    ensures { λ r. ⌜ r ≡ formOf (third (readable (byteAt (now (sent .entry)) 2)) (exactly 3 (now (sent .entry)) (Command.ReadByte (byteAt (now (sent .entry)) 2)))) ⌝ }
+fn index_form(sent: &[u8]) -> Form
+    ensures { λ r. ⌜ r ≡ formOf (indexForm (now (sent .entry))) ⌝ }
 {
     let index = words::byte_at(sent, 2);
     if board::is_readable(index) {
@@ -139,7 +137,7 @@ pub fn form_of(sent: &[u8]) -> Form
         0x0402 => zero_third(sent, 4, Command::WriteHsb(words::byte_at(sent, 3))),
         0x0403 => start_form(sent),
         0x0500 => zero_third(sent, 3, Command::ReadVersion),
-        0x0501 => read_form(sent),
+        0x0501 => index_form(sent),
         0x0502 => zero_third(sent, 3, Command::ReadHsb),
         _ => Form::Unlisted,
     }

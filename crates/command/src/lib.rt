@@ -1,4 +1,4 @@
-// What DNLOAD data says: the commands of document 01, the loader's reader and the host's writer.
+// What DNLOAD data says: the commands of document 01, their form, their addresses, the layout of a transfer, and the loader's reader.
 //
 // No public function has a `requires`: each says what it answers for every input.
 mod check;
@@ -6,7 +6,6 @@ mod command;
 mod form;
 mod reader;
 mod transfer;
-mod writer;
 
 pub use check::bad_address;
 pub use check::bad_range;
@@ -18,11 +17,12 @@ pub use reader::Parts;
 pub use reader::Reading;
 pub use reader::parts_of;
 pub use reader::read_command;
+pub use reader::reading_status;
+pub use transfer::Transfer;
 pub use transfer::body_place;
 pub use transfer::range_count;
+pub use transfer::transfer_of;
 pub use transfer::wrong_length;
-pub use writer::Written;
-pub use writer::write_command;
 
 // "32 bytes of command", "16 suffix bytes", and the most bytes to program or read.
 pub const COMMAND_SIZE: usize = 32;
@@ -30,3 +30,8 @@ pub const COMMAND_SIZE: usize = 32;
 pub const SUFFIX_SIZE: usize = 16;
 
 pub const MOST_BYTES: usize = 1024;
+
+// The status of a stall, and of a command whose address is wrong.
+pub const STALL_STATUS: u8 = 0x0F;
+
+pub const BAD_ADDRESS_STATUS: u8 = 0x08;

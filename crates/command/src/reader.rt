@@ -1,6 +1,8 @@
 // The loader's command reader.
 ghost use mathlib.Core.Path.{_≡_};
-ghost use Rattle.command.specs.Reader.{partsFor, readCommand};
+ghost use Rattle.command.specs.Reader.{partsFor, readCommand, readingStatus};
+use crate::BAD_ADDRESS_STATUS;
+use crate::STALL_STATUS;
 use crate::check::bad_address;
 use crate::command::Command;
 use crate::form::Form;
@@ -22,8 +24,18 @@ pub struct Parts {
 pub enum Reading {
     Taken(Command, Parts),
     Stalls,
-    // Status 08h.
     BadAddress,
+}
+
+// The status of an answer.
+pub fn reading_status(reading: Reading) -> u8
+    ensures { λ r. ⌜ r ≡ readingStatus reading ⌝ }
+{
+    match reading {
+        Reading::Taken(_, _) => 0x00,
+        Reading::Stalls => STALL_STATUS,
+        Reading::BadAddress => BAD_ADDRESS_STATUS,
+    }
 }
 
 // The parts of a command whose data is n bytes.

@@ -21,12 +21,13 @@ pub fn range_count(range: Range) -> usize
     ensures { λ r. ⌜ r ≤ 65536 ⌝ }
 {
     match range {
-        Range::Flash(start, end) => count(start.0, end.0),
-        Range::Eeprom(start, end) => count(start.0, end.0),
+        Range::Flash(start, end) => bytes_between(start.0, end.0),
+        Range::Eeprom(start, end) => bytes_between(start.0, end.0),
     }
 }
 
-fn count(start: u16, end: u16) -> usize
+// How many bytes stand from one address to another, both of them counted.
+fn bytes_between(start: u16, end: u16) -> usize
     ensures { λ r. ⌜ r ≡ count start end ⌝ }
     ensures { λ r. ⌜ r ≤ 65536 ⌝ }
 {
@@ -54,17 +55,7 @@ pub fn transfer_of(command: Command) -> Transfer
 {
     match command {
         Command::Program(range) => Transfer::Of(range),
-        Command::Read(_) => Transfer::NoTransfer,
-        Command::BlankCheck(_, _) => Transfer::NoTransfer,
-        Command::EraseBlock(_) => Transfer::NoTransfer,
-        Command::EraseChip => Transfer::NoTransfer,
-        Command::WriteByte(_, _) => Transfer::NoTransfer,
-        Command::WriteHsb(_) => Transfer::NoTransfer,
-        Command::StartReset => Transfer::NoTransfer,
-        Command::StartAt(_) => Transfer::NoTransfer,
-        Command::ReadVersion => Transfer::NoTransfer,
-        Command::ReadByte(_) => Transfer::NoTransfer,
-        Command::ReadHsb => Transfer::NoTransfer,
+        _ => Transfer::NoTransfer,
     }
 }
 

@@ -10,20 +10,39 @@ use Rattle.exports.proofs.loader_write_command.Reads as loader-write-co
 use Rattle.exports.proofs.loader_check_job.Reads as loader-check-job
 use Rattle.exports.proofs.loader_count_requests.Reads as loader-count-requests
 
-pub of-loader-step : (κs : _) (a : _) (r r′ : _) (s s′ : _) → loader-step.Post κs a r s → loader-step.Post κs a r′ s′ → (r ≡ r′) × (s .0 .now ≡ s′ .0 .now) × (s .1 .0 .now ≡ s′ .1 .0 .now) × (s .1 .1 .1 .1 .0 .now ≡ s′ .1 .1 .1 .1 .0 .now) × (s .1 .1 .1 .1 .1 .0 .now ≡ s′ .1 .1 .1 .1 .1 .0 .now) × (s .1 .1 .1 .1 .1 .1 .0 .now ≡ s′ .1 .1 .1 .1 .1 .1 .0 .now) × (s .1 .1 .1 .1 .1 .1 .1 .0 .now ≡ s′ .1 .1 .1 .1 .1 .1 .1 .0 .now) × (s .1 .1 .1 .1 .1 .1 .1 .1 .0 .now ≡ s′ .1 .1 .1 .1 .1 .1 .1 .1 .0 .now)
-of-loader-step κs a r r′ s s′ p q = (one (p .outcome-told) (q .outcome-told), one (p .session-told) (q .session-told), one (p .config-told) (q .config-told), one (p .flash) (q .flash), one (p .eeprom) (q .eeprom), one (p .reply) (q .reply), one (p .sent-told) (q .sent-told), one (p .pages-told) (q .pages-told))
+-- s and s′ have what was lent, one parameter after the other: session, configuration, setup, data, flash, EEPROM, reply, count, pages
+pub of-loader-step : (κs : _) (a : _) (r r′ : _) (s s′ : _) → loader-step.Post κs a r s → loader-step.Post κs a r′ s′
+    → (r ≡ r′) × (s .0 .now ≡ s′ .0 .now) × (s .1 .0 .now ≡ s′ .1 .0 .now)
+    × (s .1 .1 .1 .1 .0 .now ≡ s′ .1 .1 .1 .1 .0 .now) × (s .1 .1 .1 .1 .1 .0 .now ≡ s′ .1 .1 .1 .1 .1 .0 .now)
+    × (s .1 .1 .1 .1 .1 .1 .0 .now ≡ s′ .1 .1 .1 .1 .1 .1 .0 .now) × (s .1 .1 .1 .1 .1 .1 .1 .0 .now ≡ s′ .1 .1 .1 .1 .1 .1 .1 .0 .now)
+    × (s .1 .1 .1 .1 .1 .1 .1 .1 .0 .now ≡ s′ .1 .1 .1 .1 .1 .1 .1 .1 .0 .now)
+of-loader-step κs a r r′ s s′ p q = (
+  one (p .outcome-told) (q .outcome-told),
+  one (p .session-told) (q .session-told),
+  one (p .config-told) (q .config-told),
+  one (p .flash) (q .flash),
+  one (p .eeprom) (q .eeprom),
+  one (p .reply) (q .reply),
+  one (p .sent-told) (q .sent-told),
+  one (p .pages-told) (q .pages-told),
+)
 
 pub of-loader-power-up : (κs : _) (a : _) (r r′ : _) (s s′ : _) → loader-power-up.Post κs a r s → loader-power-up.Post κs a r′ s′ → r ≡ r′
 of-loader-power-up κs a r r′ s s′ p q = one p q
 
-pub of-loader-read-command : (κs : _) (a : _) (r r′ : _) (s s′ : _) → loader-read-command.Post κs a r s → loader-read-command.Post κs a r′ s′ → (r ≡ r′) × (s .1 .0 .now ≡ s′ .1 .0 .now) × (s .1 .1 .0 .now ≡ s′ .1 .1 .0 .now) × (s .1 .1 .1 .0 .now ≡ s′ .1 .1 .1 .0 .now)
-of-loader-read-command κs a r r′ s s′ p q = (one (p .0) (q .0), one (p .1 .0) (q .1 .0), one (p .1 .1 .0) (q .1 .1 .0), one (p .1 .1 .1) (q .1 .1 .1))
+pub of-loader-read-command : (κs : _) (a : _) (r r′ : _) (s s′ : _) → loader-read-command.Post κs a r s → loader-read-command.Post κs a r′ s′
+    → (r ≡ r′) × (s .1 .0 .now ≡ s′ .1 .0 .now) × (s .1 .1 .0 .now ≡ s′ .1 .1 .0 .now) × (s .1 .1 .1 .0 .now ≡ s′ .1 .1 .1 .0 .now)
+of-loader-read-command κs a r r′ s s′ p q =
+    (one (p .0) (q .0), one (p .1 .0) (q .1 .0), one (p .1 .1 .0) (q .1 .1 .0), one (p .1 .1 .1) (q .1 .1 .1))
 
-pub of-loader-write-command : (κs : _) (a : _) (r r′ : _) (s s′ : _) → loader-write-command.Post κs a r s → loader-write-command.Post κs a r′ s′ → (r ≡ r′) × (s .1 .1 .1 .0 .now ≡ s′ .1 .1 .1 .0 .now) × (s .1 .1 .1 .1 .0 .now ≡ s′ .1 .1 .1 .1 .0 .now)
-of-loader-write-command κs a r r′ s s′ p q = (one (p .0) (q .0), one (p .1 .1) (q .1 .1), one (p .1 .0) (q .1 .0))
+pub of-loader-write-command : (κs : _) (a : _) (r r′ : _) (s s′ : _) → loader-write-command.Post κs a r s → loader-write-command.Post κs a r′ s′
+    → (r ≡ r′) × (s .1 .1 .1 .0 .now ≡ s′ .1 .1 .1 .0 .now) × (s .1 .1 .1 .1 .0 .now ≡ s′ .1 .1 .1 .1 .0 .now)
+of-loader-write-command κs a r r′ s s′ p q = (one (p .0 .0) (q .0 .0), one (p .1) (q .1), one (p .0 .1) (q .0 .1))
 
-pub of-loader-check-job : (κs : _) (a : _) (r r′ : _) (s s′ : _) → loader-check-job.Post κs a r s → loader-check-job.Post κs a r′ s′ → (r ≡ r′) × (s .1 .0 .now ≡ s′ .1 .0 .now)
+pub of-loader-check-job : (κs : _) (a : _) (r r′ : _) (s s′ : _) → loader-check-job.Post κs a r s → loader-check-job.Post κs a r′ s′
+    → (r ≡ r′) × (s .1 .0 .now ≡ s′ .1 .0 .now)
 of-loader-check-job κs a r r′ s s′ p q = (one (p .0) (q .0), one (p .1) (q .1))
 
-pub of-loader-count-requests : (κs : _) (a : _) (r r′ : _) (s s′ : _) → loader-count-requests.Post κs a r s → loader-count-requests.Post κs a r′ s′ → r ≡ r′
+pub of-loader-count-requests : (κs : _) (a : _) (r r′ : _) (s s′ : _) → loader-count-requests.Post κs a r s
+    → loader-count-requests.Post κs a r′ s′ → r ≡ r′
 of-loader-count-requests κs a r r′ s s′ p q = one p q

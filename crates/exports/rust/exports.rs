@@ -1,4 +1,5 @@
-//! The functions of the static library, for a program in Rust. The layout of the numbers stands in ../specs/Layout.antt.
+//! The functions of the static library, for a program in Rust. ../c/side_board_loader.h has the layout
+//! of the numbers.
 
 #[link(name = "exports", kind = "static")]
 extern "C" {

@@ -1,37 +1,23 @@
 // The functions that a program in another language links: the step, the command reader and writer, the verdict on a job file and its
-// count of requests, over numbers and byte slices. The layout of the numbers stands in specs/Layout.antt.
+// count of requests, over numbers and byte slices. c/side_board_loader.h has them for C, rust/exports.rs for Rust; the layout of the
+// numbers is crates/numbers'.
 //
 // No public function has a `requires`: each says what it answers for every input.
-mod command_number;
-mod config_number;
-mod outcome_number;
-mod packing;
-mod session_number;
-
 ghost use mathlib.Core.Path.{_≡_};
 ghost use lib.ListN.{length};
-ghost use Rattle.command.specs.Reader.{readCommand};
-ghost use Rattle.command.specs.Writer.{writeCommand, roomAfter};
+ghost use Rattle.command.specs.Reader.{readCommand, readingStatus};
+ghost use Rattle.writer.specs.Writer.{writeCommand, roomAfter, writtenNumber, writtenCount};
 ghost use Rattle.job.specs.Requests.{requestCount};
 ghost use Rattle.job.specs.Verdict.{verdict, verdictNumber, verdictPlace};
 ghost use Rattle.loader.specs.Session.{idle};
-ghost use Rattle.loader.specs.Result.{board as boardOf};
 ghost use Rattle.loader.specs.Step.{ask};
-ghost use Rattle.exports.specs.Layout.{packSession, sessionOf, configOf, commandOf};
-ghost use Rattle.exports.specs.Exported.{StepTold, readingTold, commandTold, bodyTold, suffixTold, writtenTold, lengthTold};
+ghost use Rattle.numbers.specs.Layout.{packSession, commandOf};
+ghost use Rattle.exports.specs.Exported.{StepTold, numbered, commandTold, bodyTold, suffixTold};
 use command::Reading;
-use command::Written;
-use command_number::command_of;
-use command_number::pack_command;
-use config_number::config_of;
-use config_number::pack_config;
 use job::Verdict;
-use outcome_number::pack_outcome;
-use session_number::pack_session;
-use session_number::session_of;
 
 // Takes one request. Session and configuration are changed in place; `count` and `pages` get how many bytes of the reply are sent
-// and how many pages were stored. The answer is the outcome.
+// and how many pages were stored. The answer is the outcome. Refused, session and configuration stay as they were, bit for bit.
 #[no_mangle]
 pub extern "C" fn loader_step(
     session: &mut u64,
@@ -44,23 +30,28 @@ pub extern "C" fn loader_step(
     count: &mut usize,
     pages: &mut usize,
 ) -> u64
-    ensures { λ r. ⌜ StepTold (boardOf (sessionOf (now (session .entry))) (configOf (now (config .entry))) (now (flash .entry)) (now (eeprom .entry))) (ask (boardOf (sessionOf (now (session .entry))) (configOf (now (config .entry))) (now (flash .entry)) (now (eeprom .entry))) (now (setup .entry)) (now (sent .entry)) (length (now (reply .entry)))) r (now (session .exit)) (now (config .exit)) (now (count .exit)) (now (pages .exit)) (now (flash .exit)) (now (eeprom .exit)) (now (reply .exit)) (now (reply .entry)) ⌝ }
+    ensures { λ r.
+        let b = numbered (now (session .entry)) (now (config .entry)) (now (flash .entry)) (now (eeprom .entry)) in
+        let a = ask b (now (setup .entry)) (now (sent .entry)) (length (now (reply .entry))) in
+        ⌜ StepTold b a (now (session .entry)) (now (config .entry)) (now (reply .entry))
+        r (now (session .exit)) (now (config .exit)) (now (count .exit)) (now (pages .exit))
+        (now (flash .exit)) (now (eeprom .exit)) (now (reply .exit)) ⌝ }
 {
     let answer = loader::step(
-        session_of(*session),
-        config_of(*config),
+        numbers::session_of(*session),
+        numbers::config_of(*config),
         setup,
         sent,
         flash,
         eeprom,
         reply,
     );
-    *session = pack_session(answer.session);
-    *config = pack_config(answer.config);
+    let outcome = answer.outcome;
+    *session = numbers::number_after(outcome, *session, numbers::pack_session(answer.session));
+    *config = numbers::number_after(outcome, *config, numbers::pack_config(answer.config));
     *count = answer.length;
     *pages = answer.pages;
-    let outcome = answer.outcome;
-    pack_outcome(outcome)
+    numbers::pack_outcome(outcome)
 }
 
 // The session after power-up.
@@ -68,7 +59,7 @@ pub extern "C" fn loader_step(
 pub extern "C" fn loader_power_up() -> u64
     ensures { λ r. ⌜ r ≡ packSession idle ⌝ }
 {
-    pack_session(loader::power_up())
+    numbers::pack_session(loader::power_up())
 }
 
 // Reads the data of a DNLOAD: 0 with the command and the places of its body and suffix, or 0Fh for a stall, or 08h.
@@ -79,20 +70,21 @@ pub extern "C" fn loader_read_command(
     body: &mut usize,
     suffix: &mut usize,
 ) -> u8
-    ensures { λ r. ⌜ r ≡ readingTold (readCommand (now (sent .entry))) ⌝ }
+    ensures { λ r. ⌜ r ≡ readingStatus (readCommand (now (sent .entry))) ⌝ }
     ensures { λ r. ⌜ now (command .exit) ≡ commandTold (readCommand (now (sent .entry))) (now (command .entry)) ⌝ }
     ensures { λ r. ⌜ now (body .exit) ≡ bodyTold (readCommand (now (sent .entry))) (now (body .entry)) ⌝ }
     ensures { λ r. ⌜ now (suffix .exit) ≡ suffixTold (readCommand (now (sent .entry))) (now (suffix .entry)) ⌝ }
 {
-    match command::read_command(sent) {
+    let reading = command::read_command(sent);
+    let status = command::reading_status(reading);
+    match reading {
         Reading::Taken(read, parts) => {
-            *command = pack_command(read);
+            *command = numbers::pack_command(read);
             *body = parts.body;
             *suffix = parts.suffix;
-            0x00
+            status
         }
-        Reading::Stalls => 0x0F,
-        Reading::BadAddress => 0x08,
+        Reading::Stalls | Reading::BadAddress => status,
     }
 }
 
@@ -105,20 +97,14 @@ pub extern "C" fn loader_write_command(
     room: &mut [u8],
     count: &mut usize,
 ) -> u8
-    ensures { λ r. ⌜ r ≡ writtenTold (writeCommand (commandOf command) (now (body .entry)) (now (suffix .entry)) (now (room .entry))) ⌝ }
-    ensures { λ r. ⌜ now (count .exit) ≡ lengthTold (writeCommand (commandOf command) (now (body .entry)) (now (suffix .entry)) (now (room .entry))) ⌝ }
+    ensures { λ r.
+        let written = writeCommand (commandOf command) (now (body .entry)) (now (suffix .entry)) (now (room .entry)) in
+        ⌜ (r ≡ writtenNumber written) × (now (count .exit) ≡ writtenCount written) ⌝ }
     ensures { λ r. ⌜ now (room .exit) ≡ roomAfter (commandOf command) (now (body .entry)) (now (suffix .entry)) (now (room .entry)) ⌝ }
 {
-    match command::write_command(command_of(command), body, suffix, room) {
-        Written::Wrote(n) => {
-            *count = n;
-            0
-        }
-        Written::Unwritten(number) => {
-            *count = 0;
-            number
-        }
-    }
+    let written = writer::write_command(numbers::command_of(command), body, suffix, room);
+    *count = writer::written_count(written);
+    writer::written_number(written)
 }
 
 // The verdict on a job file: 0, or the number of its refusal. `at` gets the offset of the bad field's tag.

@@ -1,4 +1,4 @@
-//! The second program's values as the numbers of crates/exports/specs/Layout.antt, and back.
+//! The second program's values as the numbers of crates/numbers/specs/Layout.antt, and back.
 
 use second::{Block, Command, Config, Memory, Outcome, Pending, Session, StartKind};
 

@@ -3,7 +3,7 @@
 use crate::layout;
 use crate::random::Random;
 use crate::tally::Tally;
-use second::{Config, Session};
+use second::{Config, Outcome, Session};
 
 pub const FLASH: usize = 32_768;
 pub const EEPROM: usize = 1_024;
@@ -115,7 +115,8 @@ impl Pair {
 
     /// Takes one step with both, and gives the first difference.
     pub fn take(&mut self, step: &Step, tally: &mut Tally) -> Option<String> {
-        // A number that was set may not be the one that packs what it counts as, so it is compared after the next request.
+        // A number that was set may not be the one that packs what it counts as, so it is compared after the next request. Refused, it
+        // has to stay as it was lent.
         match step {
             Step::Ask(request) => return self.ask(request, tally),
             Step::PowerUp => {
@@ -133,10 +134,16 @@ impl Pair {
                 return None;
             }
         }
-        self.boards()
+        self.boards(self.packed())
+    }
+
+    /// The second program's session and configuration as numbers.
+    fn packed(&self) -> (u64, u64) {
+        (layout::pack_session(&self.second.session), layout::pack_config(&self.second.config))
     }
 
     fn ask(&mut self, request: &Request, tally: &mut Tally) -> Option<String> {
+        let lent = (self.session, self.config);
         let (outcome, count, pages) = exports::step(
             &mut self.session,
             &mut self.config,
@@ -149,17 +156,18 @@ impl Pair {
         tally.before(&self.second.session, &self.second.config);
         let answer = self.second.ask(request);
         tally.after(request, &answer, &self.second.session);
+        let expected = if matches!(answer.outcome, Outcome::Refused(_)) { lent } else { self.packed() };
         number("outcome", outcome, layout::pack_outcome(&answer.outcome))
             .or_else(|| number("bytes sent", count as u64, answer.length as u64))
             .or_else(|| number("pages", pages as u64, answer.pages as u64))
-            .or_else(|| self.boards())
+            .or_else(|| self.boards(expected))
     }
 
     /// Session, configuration, and every byte of the reply and both memories.
-    fn boards(&self) -> Option<String> {
+    fn boards(&self, (session, config): (u64, u64)) -> Option<String> {
         let second = &self.second;
-        number("session", self.session, layout::pack_session(&second.session))
-            .or_else(|| number("configuration", self.config, layout::pack_config(&second.config)))
+        number("session", self.session, session)
+            .or_else(|| number("configuration", self.config, config))
             .or_else(|| place("reply", &self.reply, &second.reply))
             .or_else(|| place("flash", &self.flash, &second.flash))
             .or_else(|| place("EEPROM", &self.eeprom, &second.eeprom))

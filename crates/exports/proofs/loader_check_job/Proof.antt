@@ -12,13 +12,13 @@ told v x q = (rw q, rw q)
 
 returns : tie.Need-returns
 returns c =
-    let b = c .before .before in
-    told (verdict (b .before .before .args .file .now)) _ (sym (c .enum-told .given .1) ∙ b .check-job .ensures)
+    let checked = c .before .before in
+    told (verdict (checked .before .before .args .file .now)) _ (sym (c .enum-told .given .1) ∙ checked .check-job .ensures)
 
 returns-2 : tie.Need-returns-2
 returns-2 c =
-    let b = c .before .before .before in
-    told (verdict (b .before .before .args .file .now)) _ (sym (c .before .number .given .1) ∙ b .check-job .ensures)
+    let checked = c .before .before .before in
+    told (verdict (checked .before .before .args .file .now)) _ (sym (c .before .number .given .1) ∙ checked .check-job .ensures)
 
 pub loader-check-job-spec : {M : Type 1} → statement M
 loader-check-job-spec = tie.close (tie.spec (λ c κs. search needs) (λ c. search needs) (λ c. search needs) returns returns-2)

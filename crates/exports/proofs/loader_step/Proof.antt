@@ -7,33 +7,49 @@ use lib.ListN.{length}
 use Rattle.board.specs.declared.config.Config.{Config}
 use Rattle.loader.specs.declared.session.Session.{Session}
 use Rattle.loader.specs.declared.answer.Answer.{Answer}
-use Rattle.loader.specs.Result.{board}
+use Rattle.loader.specs.Result.{Board, Result, board}
 use Rattle.loader.specs.Step.{ask}
 use Rattle.loader.specs.Answered.{Stepped}
-use Rattle.exports.specs.Layout.{sessionOf, configOf, packSession, packConfig, packOutcome}
-use Rattle.exports.specs.Exported.{StepTold}
+use Rattle.numbers.specs.Layout.{sessionOf, configOf, packSession, packConfig, packOutcome, numberAfter}
+use Rattle.exports.specs.Exported.{StepTold, numbered}
 use borrow.Author.Needs.{needs}
 use Rattle.exports.proofs.loader_step.Statement.{statement}
 use Rattle.exports.proofs.loader_step.Tie as tie
 
-module _ (s : Session) (k : Config) (flash eeprom setup sent reply : List ℕ) (a : Answer) (f e p : List ℕ) (n c outcome session config : ℕ) where
-  -- what the step answers, as numbers
-  told : s ≡ sessionOf n → k ≡ configOf c → Stepped (board s k flash eeprom) (ask (board s k flash eeprom) setup sent (length reply)) a f e p reply
-      → session ≡ packSession (a .session) → config ≡ packConfig (a .config) → outcome ≡ packOutcome (a .outcome)
-      → StepTold (board (sessionOf n) (configOf c) flash eeprom) (ask (board (sessionOf n) (configOf c) flash eeprom) setup sent (length reply)) outcome session config (a .length) (a .pages) f e p reply
-  told q r g es ec eo = rw (sym q, sym r) (record {
-    outcome-told = eo ∙ ap (λ (x : Answer). packOutcome (x .outcome)) (g .answered);
-    session-told = es ∙ ap (λ (x : Answer). packSession (x .session)) (g .answered);
-    config-told = ec ∙ ap (λ (x : Answer). packConfig (x .config)) (g .answered);
-    sent-told = ap (λ (x : Answer). x .length) (g .answered);
-    pages-told = ap (λ (x : Answer). x .pages) (g .answered);
-    flash = g .flash;
-    eeprom = g .eeprom;
-    reply = g .reply;
-  })
+-- what the step answers, as numbers
+told : (b : Board) (r : Result) (a : Answer) (f e p p₀ : List ℕ) (n c outcome session config : ℕ) → Stepped b r a f e p p₀
+    → session ≡ numberAfter (a .outcome) n (packSession (a .session)) → config ≡ numberAfter (a .outcome) c (packConfig (a .config))
+    → outcome ≡ packOutcome (a .outcome) → StepTold b r n c p₀ outcome session config (a .length) (a .pages) f e p
+told b r a f e p p₀ n c outcome session config g es ec eo = record {
+  outcome-told = eo ∙ ap (λ (x : Answer). packOutcome (x .outcome)) (g .answered);
+  session-told = es ∙ ap (λ (x : Answer). numberAfter (x .outcome) n (packSession (x .session))) (g .answered);
+  config-told = ec ∙ ap (λ (x : Answer). numberAfter (x .outcome) c (packConfig (x .config))) (g .answered);
+  sent-told = ap (λ (x : Answer). x .length) (g .answered);
+  pages-told = ap (λ (x : Answer). x .pages) (g .answered);
+  flash = g .flash;
+  eeprom = g .eeprom;
+  reply = g .reply;
+}
+
+-- the board that the numbers stand for
+of-numbers : (s : Session) (k : Config) (n c : ℕ) (flash eeprom setup sent reply : List ℕ) (a : Answer) (f e p : List ℕ)
+    → s ≡ sessionOf n → k ≡ configOf c → Stepped (board s k flash eeprom) (ask (board s k flash eeprom) setup sent (length reply)) a f e p reply
+    → Stepped (numbered n c flash eeprom) (ask (numbered n c flash eeprom) setup sent (length reply)) a f e p reply
+of-numbers s k n c flash eeprom setup sent reply a f e p q r g = rw (sym q, sym r) g
 
 returns : tie.Need-returns
-returns c = told _ _ (c .before .before .before .before .before .before .before .before .before .before .before .before .before .before .before .before .before .before .before .before .before .before .args .flash .now) (c .before .before .before .before .before .before .before .before .before .before .before .before .before .before .before .before .before .before .before .before .before .before .args .eeprom .now) (c .before .before .before .before .before .before .before .before .before .before .before .before .before .before .before .before .before .before .before .before .before .before .args .setup .now) (c .before .before .before .before .before .before .before .before .before .before .before .before .before .before .before .before .before .before .before .before .before .before .args .sent .now) (c .before .before .before .before .before .before .before .before .before .before .before .before .before .before .before .before .before .before .before .before .before .before .args .reply .now) _ _ _ _ (c .before .before .before .before .before .before .before .before .before .before .before .before .before .before .before .before .before .before .before .before .before .before .args .session .now) (c .before .before .before .before .before .before .before .before .before .before .before .before .before .before .before .before .before .before .before .before .before .before .args .config .now) _ _ _ (c .before .before .before .before .before .before .before .before .before .before .before .before .before .before .before .session-of .ensures) (c .before .before .before .before .before .before .before .before .before .before .before .before .before .config-of .ensures) (c .before .before .before .before .before .before .before .before .before .step .ensures) (c .before .before .pack-session .ensures) (c .before .pack-config .ensures) (c .pack-outcome .ensures)
+returns c =
+    let session = c .before .before .before in
+    let step = session .before .before .before .before .before .before .before .before in
+    let config = step .before .before .before .before in
+    let a = config .before .before .before .before .before .before .before .before .before .args in
+    told _ _ _ _ _ _ (a .reply .now) (a .session .now) (a .config .now) _ _ _
+    (of-numbers _ _ (a .session .now) (a .config .now) (a .flash .now) (a .eeprom .now) (a .setup .now) (a .sent .now) (a .reply .now) _ _ _ _
+    (config .before .before .session-of .ensures) (config .config-of .ensures) (step .step .ensures))
+    (session .number-after .ensures ∙ rw (session .before .pack-session .ensures))
+    (c .before .number-after2 .ensures ∙ rw (c .before .before .pack-config .ensures)) (c .pack-outcome .ensures)
 
 pub loader-step-spec : {M : Type 1} → statement M
-loader-step-spec = tie.close (tie.spec (λ c κs. search needs) (λ c κs. search needs) (λ c κs. search needs) (λ c κs. search needs) (λ c κs. search needs) (λ c κs. search needs) (λ c. search needs) (λ c. search needs) (λ c. search needs) returns)
+loader-step-spec = tie.close (tie.spec
+    (λ c κs. search needs) (λ c κs. search needs) (λ c κs. search needs) (λ c κs. search needs) (λ c κs. search needs) (λ c κs. search needs)
+    (λ c κs. search needs) (λ c κs. search needs) (λ c. search needs) (λ c. search needs) (λ c. search needs) returns)

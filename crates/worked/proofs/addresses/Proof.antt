@@ -17,4 +17,6 @@ expect-requires-3 : tie.Need-expect-requires-3
 expect-requires-3 c κs = c .bad-range3 .ensures ∙ ap badRange (c .before .flash3 .ensures)
 
 pub addresses-spec : {M : Type 1} → statement M
-addresses-spec = tie.close (tie.spec (λ c κs. search needs) (λ c κs. search needs) expect-requires (λ c κs. search needs) (λ c κs. search needs) expect-requires-2 (λ c κs. search needs) (λ c κs. search needs) expect-requires-3 (λ c. search needs))
+addresses-spec = tie.close (tie.spec
+    (λ c κs. search needs) (λ c κs. search needs) expect-requires (λ c κs. search needs) (λ c κs. search needs) expect-requires-2
+    (λ c κs. search needs) (λ c κs. search needs) expect-requires-3 (λ c. search needs))

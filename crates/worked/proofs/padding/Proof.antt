@@ -19,4 +19,6 @@ expect-requires-3 : tie.Need-expect-requires-3
 expect-requires-3 c κs = c .wrong-length2 .ensures ∙ ap (λ r. wrongLength (Program r) 65) (c .before .before .before .before .before .flash .ensures)
 
 pub padding-spec : {M : Type 1} → statement M
-padding-spec = tie.close (tie.spec (λ c κs. search needs) (λ c κs. search needs) (λ c. search needs) expect-requires (λ c κs. search needs) expect-requires-2 (λ c κs. search needs) expect-requires-3 (λ c. search needs))
+padding-spec = tie.close (tie.spec
+    (λ c κs. search needs) (λ c κs. search needs) (λ c. search needs) expect-requires (λ c κs. search needs) expect-requires-2 (λ c κs. search needs)
+    expect-requires-3 (λ c. search needs))

@@ -19,7 +19,11 @@ returns-4 : tie.Need-returns-4
 returns-4 c = c .exact4 .ensures ∙ simp (← c .before .before .byte-at .ensures, c .before .match .keys4)
 
 returns-5 : tie.Need-returns-5
-returns-5 c = simp (← c .before .byte-at .ensures, ne-eqb _ _ (c .match .rest .0 .0 .0 .1), ne-eqb _ _ (c .match .rest .0 .0 .1), ne-eqb _ _ (c .match .rest .0 .1), ne-eqb _ _ (c .match .rest .1))
+returns-5 c =
+    let no = c .match .rest in
+    simp (← c .before .byte-at .ensures, ne-eqb _ _ (no .0 .0 .0 .1), ne-eqb _ _ (no .0 .0 .1), ne-eqb _ _ (no .0 .1), ne-eqb _ _ (no .1))
 
 pub erase-form-spec : {M : Type 1} → statement M
-erase-form-spec = tie.close (tie.spec (λ c κs. search needs) (λ c κs. search needs) (λ c κs. search needs) (λ c κs. search needs) (λ c κs. search needs) returns returns-2 returns-3 returns-4 returns-5)
+erase-form-spec = tie.close (tie.spec
+    (λ c κs. search needs) (λ c κs. search needs) (λ c κs. search needs) (λ c κs. search needs) (λ c κs. search needs) returns returns-2 returns-3
+    returns-4 returns-5)

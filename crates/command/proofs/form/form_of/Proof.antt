@@ -15,16 +15,24 @@ unfolding form
 by-row d n r e q p = p ∙ ap (λ x. formOf (row x d)) (sym q ∙ e)
 
 returns : tie.Need-returns
-returns c = by-row _ 0x0100 _ (c .before .before .before .high-at .ensures) (c .before .before .match .keys1) (c .six-or-more .ensures ∙ rw (c .before .flash-range .ensures))
+returns c =
+    let arm = c .before .before in
+    by-row _ 0x0100 _ (arm .before .high-at .ensures) (arm .match .keys1) (c .six-or-more .ensures ∙ rw (c .before .flash-range .ensures))
 
 returns-2 : tie.Need-returns-2
-returns-2 c = by-row _ 0x0101 _ (c .before .before .before .high-at .ensures) (c .before .before .match .keys2) (c .six-or-more2 .ensures ∙ rw (c .before .eeprom-range .ensures))
+returns-2 c =
+    let arm = c .before .before in
+    by-row _ 0x0101 _ (arm .before .high-at .ensures) (arm .match .keys2) (c .six-or-more2 .ensures ∙ rw (c .before .eeprom-range .ensures))
 
 returns-3 : tie.Need-returns-3
-returns-3 c = by-row _ 0x0300 _ (c .before .before .before .high-at .ensures) (c .before .before .match .keys3) (c .exact .ensures ∙ rw (c .before .flash-range2 .ensures))
+returns-3 c =
+    let arm = c .before .before in
+    by-row _ 0x0300 _ (arm .before .high-at .ensures) (arm .match .keys3) (c .exact .ensures ∙ rw (c .before .flash-range2 .ensures))
 
 returns-4 : tie.Need-returns-4
-returns-4 c = by-row _ 0x0302 _ (c .before .before .before .high-at .ensures) (c .before .before .match .keys4) (c .exact2 .ensures ∙ rw (c .before .eeprom-range2 .ensures))
+returns-4 c =
+    let arm = c .before .before in
+    by-row _ 0x0302 _ (arm .before .high-at .ensures) (arm .match .keys4) (c .exact2 .ensures ∙ rw (c .before .eeprom-range2 .ensures))
 
 returns-5 : tie.Need-returns-5
 returns-5 c = by-row _ 0x0301 _ (c .before .before .high-at .ensures) (c .before .match .keys5) (c .blank-form .ensures)
@@ -36,7 +44,9 @@ returns-7 : tie.Need-returns-7
 returns-7 c = by-row _ 0x0401 _ (c .before .before .high-at .ensures) (c .before .match .keys7) (c .write-form .ensures)
 
 returns-8 : tie.Need-returns-8
-returns-8 c = by-row _ 0x0402 _ (c .before .before .before .high-at .ensures) (c .before .before .match .keys8) (c .zero-third .ensures ∙ rw (c .before .byte-at .ensures))
+returns-8 c =
+    let arm = c .before .before in
+    by-row _ 0x0402 _ (arm .before .high-at .ensures) (arm .match .keys8) (c .zero-third .ensures ∙ rw (c .before .byte-at .ensures))
 
 returns-9 : tie.Need-returns-9
 returns-9 c = by-row _ 0x0403 _ (c .before .before .high-at .ensures) (c .before .match .keys9) (c .start-form .ensures)
@@ -45,14 +55,35 @@ returns-10 : tie.Need-returns-10
 returns-10 c = by-row _ 0x0500 _ (c .before .before .high-at .ensures) (c .before .match .keys10) (c .zero-third2 .ensures)
 
 returns-11 : tie.Need-returns-11
-returns-11 c = by-row _ 0x0501 _ (c .before .before .high-at .ensures) (c .before .match .keys11) (c .read-form .ensures)
+returns-11 c = by-row _ 0x0501 _ (c .before .before .high-at .ensures) (c .before .match .keys11) (c .index-form .ensures)
 
 returns-12 : tie.Need-returns-12
 returns-12 c = by-row _ 0x0502 _ (c .before .before .high-at .ensures) (c .before .match .keys12) (c .zero-third3 .ensures)
 
 returns-13 : tie.Need-returns-13
 unfolding form
-returns-13 c = simp (← c .before .high-at .ensures, ne-eqb _ _ (c .match .rest .0 .0 .0 .0 .0 .0 .0 .0 .0 .0 .0 .1), ne-eqb _ _ (c .match .rest .0 .0 .0 .0 .0 .0 .0 .0 .0 .0 .1), ne-eqb _ _ (c .match .rest .0 .0 .0 .0 .0 .0 .0 .0 .0 .1), ne-eqb _ _ (c .match .rest .0 .0 .0 .0 .0 .0 .0 .0 .1), ne-eqb _ _ (c .match .rest .0 .0 .0 .0 .0 .0 .0 .1), ne-eqb _ _ (c .match .rest .0 .0 .0 .0 .0 .0 .1), ne-eqb _ _ (c .match .rest .0 .0 .0 .0 .0 .1), ne-eqb _ _ (c .match .rest .0 .0 .0 .0 .1), ne-eqb _ _ (c .match .rest .0 .0 .0 .1), ne-eqb _ _ (c .match .rest .0 .0 .1), ne-eqb _ _ (c .match .rest .0 .1), ne-eqb _ _ (c .match .rest .1))
+returns-13 c =
+    let no = c .match .rest in
+    let first = no .0 .0 .0 .0 .0 .0 in
+    simp (
+      ← c .before .high-at .ensures,
+      ne-eqb _ _ (first .0 .0 .0 .0 .0 .1),
+      ne-eqb _ _ (first .0 .0 .0 .0 .1),
+      ne-eqb _ _ (first .0 .0 .0 .1),
+      ne-eqb _ _ (first .0 .0 .1),
+      ne-eqb _ _ (first .0 .1),
+      ne-eqb _ _ (first .1),
+      ne-eqb _ _ (no .0 .0 .0 .0 .0 .1),
+      ne-eqb _ _ (no .0 .0 .0 .0 .1),
+      ne-eqb _ _ (no .0 .0 .0 .1),
+      ne-eqb _ _ (no .0 .0 .1),
+      ne-eqb _ _ (no .0 .1),
+      ne-eqb _ _ (no .1),
+    )
 
 pub form-of-spec : {M : Type 1} → statement M
-form-of-spec = tie.close (tie.spec (λ c κs. search needs) (λ c κs. search needs) (λ c κs. search needs) (λ c κs. search needs) (λ c κs. search needs) (λ c κs. search needs) (λ c κs. search needs) (λ c κs. search needs) (λ c κs. search needs) (λ c κs. search needs) (λ c κs. search needs) (λ c κs. search needs) (λ c κs. search needs) (λ c κs. search needs) (λ c κs. search needs) (λ c κs. search needs) (λ c κs. search needs) (λ c κs. search needs) returns returns-2 returns-3 returns-4 returns-5 returns-6 returns-7 returns-8 returns-9 returns-10 returns-11 returns-12 returns-13)
+form-of-spec = tie.close (tie.spec
+    (λ c κs. search needs) (λ c κs. search needs) (λ c κs. search needs) (λ c κs. search needs) (λ c κs. search needs) (λ c κs. search needs)
+    (λ c κs. search needs) (λ c κs. search needs) (λ c κs. search needs) (λ c κs. search needs) (λ c κs. search needs) (λ c κs. search needs)
+    (λ c κs. search needs) (λ c κs. search needs) (λ c κs. search needs) (λ c κs. search needs) (λ c κs. search needs) (λ c κs. search needs) returns
+    returns-2 returns-3 returns-4 returns-5 returns-6 returns-7 returns-8 returns-9 returns-10 returns-11 returns-12 returns-13)

@@ -6,7 +6,11 @@ use Rattle.command.proofs.form.write_form.Statement.{statement}
 use Rattle.command.proofs.form.write_form.Tie as tie
 
 returns : tie.Need-returns
-returns c = c .exact .ensures ∙ simp (c .before .before .before .byte-at2 .ensures, ← c .before .before .before .before .byte-at .ensures, sym (c .before .before .is-writable .ensures) ∙ c .before .if1 .taken)
+returns c =
+    let test = c .before in
+    let value = test .before .before in
+    c .exact .ensures
+    ∙ simp (value .byte-at2 .ensures, ← value .before .byte-at .ensures, sym (test .before .is-writable .ensures) ∙ test .if1 .taken)
 
 returns-2 : tie.Need-returns-2
 returns-2 c = simp (← c .before .before .before .byte-at .ensures, sym (c .before .is-writable .ensures) ∙ c .if1 .left)

@@ -11,7 +11,8 @@ use borrow.Author.Needs.{needs}
 use Rattle.command.proofs.reader.parts_of.Statement.{statement}
 use Rattle.command.proofs.reader.parts_of.Tie as tie
 
-of-transfer : (t : Transfer) (r : Range) (n place bytes : ℕ) → t ≡ Of r → place ≡ bodyPlace r → bytes ≡ rangeCount r → parts place (place + bytes) ≡ transferParts t n
+of-transfer : (t : Transfer) (r : Range) (n place bytes : ℕ) → t ≡ Of r → place ≡ bodyPlace r → bytes ≡ rangeCount r
+    → parts place (place + bytes) ≡ transferParts t n
 of-transfer t r n place bytes q p e = rw (q, p, e)
 
 of-none : (t : Transfer) (n : ℕ) → t ≡ NoTransfer → parts n n ≡ transferParts t n
@@ -21,10 +22,14 @@ add-suffix : tie.Need-add-t8
 add-suffix c = omega arith
 
 returns : tie.Need-returns
-returns c = of-transfer _ _ _ _ _ (sym (c .before .before .before .before .before .transfer-of .ensures) ∙ c .before .before .before .range .given .1) (c .before .body-place .ensures) (c .range-count .ensures .0)
+returns c =
+    let arm = c .before .before .before in
+    let is = sym (arm .before .before .transfer-of .ensures) ∙ arm .range .given .1 in
+    of-transfer _ _ _ _ _ is (c .before .body-place .ensures) (c .range-count .ensures .0)
 
 returns-2 : tie.Need-returns-2
 returns-2 c = of-none _ _ (sym (c .before .before .transfer-of .ensures) ∙ c .enum-told .given .1)
 
 pub parts-of-spec : {M : Type 1} → statement M
-parts-of-spec = tie.close (tie.spec (λ c κs. search needs) (λ c. search needs) (λ c κs. search needs) (λ c κs. search needs) add-suffix (λ c. search needs) returns returns-2)
+parts-of-spec = tie.close (tie.spec
+    (λ c κs. search needs) (λ c. search needs) (λ c κs. search needs) (λ c κs. search needs) add-suffix (λ c. search needs) returns returns-2)

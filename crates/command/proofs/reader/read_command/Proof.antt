@@ -44,16 +44,29 @@ unfolding readCommand
 unlisted d f q e = rw (no-form (form d) (sym q ∙ e))
 
 returns : tie.Need-returns
-returns c = wrong-address _ _ _ (c .before .before .before .before .before .form-of .ensures) (c .before .before .before .command .given .1) (sym (c .before .bad-address .ensures) ∙ c .if1 .taken)
+returns c =
+    let arm = c .before .before .before in
+    wrong-address _ _ _ (arm .before .before .form-of .ensures) (arm .command .given .1) (sym (c .before .bad-address .ensures) ∙ c .if1 .taken)
 
 returns-2 : tie.Need-returns-2
-returns-2 c = wrong-whole _ _ _ (c .before .before .before .before .before .before .before .form-of .ensures) (c .before .before .before .before .before .command .given .1) (sym (c .before .before .before .bad-address .ensures) ∙ c .before .before .if1 .left) (sym (c .before .wrong-length .ensures) ∙ c .if2 .taken)
+returns-2 c =
+    let test = c .before .before in
+    let arm = test .before .before .before in
+    wrong-whole _ _ _ (arm .before .before .form-of .ensures) (arm .command .given .1)
+    (sym (test .before .bad-address .ensures) ∙ test .if1 .left) (sym (c .before .wrong-length .ensures) ∙ c .if2 .taken)
 
 returns-3 : tie.Need-returns-3
-returns-3 c = taken _ _ _ (c .before .before .before .before .before .before .before .before .form-of .ensures) _ (c .before .before .before .before .before .before .command .given .1) (sym (c .before .before .before .before .bad-address .ensures) ∙ c .before .before .before .if1 .left) (sym (c .before .before .wrong-length .ensures) ∙ c .before .if2 .left) (c .parts-of .ensures)
+returns-3 c =
+    let whole = c .before in
+    let test = whole .before .before in
+    let arm = test .before .before .before in
+    taken _ _ _ (arm .before .before .form-of .ensures) _ (arm .command .given .1)
+    (sym (test .before .bad-address .ensures) ∙ test .if1 .left) (sym (whole .before .wrong-length .ensures) ∙ whole .if2 .left) (c .parts-of .ensures)
 
 returns-4 : tie.Need-returns-4
 returns-4 c = unlisted _ _ (c .before .before .form-of .ensures) (c .enum-told .given .1)
 
 pub read-command-spec : {M : Type 1} → statement M
-read-command-spec = tie.close (tie.spec (λ c κs. search needs) (λ c. search needs) (λ c κs. search needs) returns (λ c κs. search needs) returns-2 (λ c κs. search needs) (λ c. search needs) returns-3 returns-4)
+read-command-spec = tie.close (tie.spec
+    (λ c κs. search needs) (λ c. search needs) (λ c κs. search needs) returns (λ c κs. search needs) returns-2 (λ c κs. search needs)
+    (λ c. search needs) returns-3 returns-4)

@@ -25,7 +25,12 @@ add-result-2 : tie.Need-add-result-2
 add-result-2 c = omega arith
 
 returns : tie.Need-returns
-returns c = by-parts _ _ _ _ _ (sym (c .before .before .before .before .before .transfer-of .ensures) ∙ c .before .before .before .range .given .1) (c .before .body-place .ensures) (c .range-count .ensures .0)
+returns c =
+    let arm = c .before .before .before in
+    let is = sym (arm .before .before .transfer-of .ensures) ∙ arm .range .given .1 in
+    by-parts _ _ _ _ _ is (c .before .body-place .ensures) (c .range-count .ensures .0)
 
 pub wrong-length-spec : {M : Type 1} → statement M
-wrong-length-spec = tie.close (tie.spec (λ c κs. search needs) (λ c. search needs) (λ c κs. search needs) (λ c κs. search needs) add-result add-result-2 (λ c. search needs) returns (λ c. search needs))
+wrong-length-spec = tie.close (tie.spec
+    (λ c κs. search needs) (λ c. search needs) (λ c κs. search needs) (λ c κs. search needs) add-result add-result-2 (λ c. search needs) returns
+    (λ c. search needs))

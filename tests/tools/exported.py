@@ -1,0 +1,134 @@
+"""What crates/exports exports, read from three places: the Rattle source, the Rust declarations and the C header; and the layout of its
+numbers, read from the code of crates/numbers and from the tables of the header."""
+import re
+
+RATTLE = {
+    "u8": [("u8", "")], "u64": [("u64", "")], "usize": [("usize", "")],
+    "&mut u64": [("*mut u64", "")], "&mut usize": [("*mut usize", "")],
+    "&[u8]": [("*const u8", ""), ("usize", "_size")], "&mut [u8]": [("*mut u8", ""), ("usize", "_size")],
+}
+RUST = {"u8": "u8", "u64": "u64", "usize": "usize", "&mut u64": "*mut u64", "&mut usize": "*mut usize", "*const u8": "*const u8",
+        "*mut u8": "*mut u8"}
+C = {"uint8_t": "u8", "uint64_t": "u64", "size_t": "usize", "uint64_t *": "*mut u64", "size_t *": "*mut usize",
+     "const uint8_t *": "*const u8", "uint8_t *": "*mut u8"}
+
+
+def parameters(text):
+    return [part.strip() for part in text.split(",") if part.strip()]
+
+
+def from_rattle(text):
+    """Each function: its name, its parameters as C sees them, each a name and a type, and its result."""
+    found = {}
+    for name, given, result in re.findall(r'pub extern "C" fn (\w+)\(([^)]*)\)\s*->\s*(\w+)', text):
+        pairs = [part.split(": ") for part in parameters(given)]
+        found[name] = ([(own + more, kind) for own, rattle in pairs for kind, more in RATTLE[rattle]], result)
+    return found
+
+
+def from_rust(text):
+    block = re.search(r'extern "C" \{\n(.*?)^\}', text, re.MULTILINE | re.DOTALL)[1]
+    found = {}
+    for name, given, result in re.findall(r"fn (\w+)\(([^)]*)\)\s*->\s*(\w+);", block):
+        found[name] = ([(own, RUST[kind]) for own, kind in (part.split(": ") for part in parameters(given))], result)
+    return found
+
+
+def from_c(text):
+    found = {}
+    for result, name, given in re.findall(r"^(\w+) (\w+)\(([^)]*)\);", re.sub(r"/\*.*?\*/", "", text, flags=re.DOTALL), re.MULTILINE):
+        pairs = [re.fullmatch(r"(.*?)(\w+)", part) for part in parameters(given) if part != "void"]
+        found[name] = ([(pair[2], C[pair[1].strip()]) for pair in pairs], C[result])
+    return found
+
+
+# The words of the header for each case of the code, in the file that packs it.
+SESSION = {
+    "Pending::Nothing": "nothing", "Range::Flash": "a read of flash", "Range::Eeprom": "a read of EEPROM",
+    "Pending::BlankReport": "a blank report", "Pending::OneByte": "one byte", "StartKind::Reset": "a start by reset",
+    "StartKind::AtAddress": "a start at an address",
+}
+COMMAND = {
+    "Command::Program Range::Flash": "program flash", "Command::Program Range::Eeprom": "program EEPROM",
+    "Command::Read Range::Flash": "read flash", "Command::Read Range::Eeprom": "read EEPROM",
+    "Command::BlankCheck": "blank check of flash", "Block::Low": "erase 0000h-1FFFh", "Block::Middle": "erase 2000h-3FFFh",
+    "Block::High": "erase 4000h-7FFFh", "Command::EraseChip": "erase the full chip", "Command::WriteByte": "write configuration byte",
+    "Command::WriteHsb": "write HSB", "Command::StartReset": "start by reset", "Command::StartAt": "start at an address",
+    "Command::ReadVersion": "read version", "Command::ReadByte": "read a byte", "Command::ReadHsb": "read HSB",
+}
+OUTCOME = {
+    "Outcome::Done": "done", "Outcome::Stall": "stall", "StartKind::Reset": "start by reset",
+    "StartKind::AtAddress": "start at an address", "Outcome::Refused": "refused",
+}
+CONFIG = {"bsb": "BSB", "sbv": "SBV", "p1cf": "P1_CF", "p3cf": "P3_CF", "p4cf": "P4_CF", "ssb": "SSB", "eb": "EB", "hsb": "HSB"}
+ARM = re.compile(r"(\w+::\w+)(?:\([^)]*\))? => pack_words\(((?:[^()]|\([^()]*\))*)\)")
+
+
+def bits(text):
+    """The first bit of each of the four words, and how many bits a word and a byte have, by the constants of packing.rt."""
+    worth = {name: int(value, 0) for name, value in re.findall(r"const (\w+): u\d+ = (\w+);", text)}
+    powers = {name: value.bit_length() - 1 for name, value in worth.items()}
+    if any(1 << powers[name] != value for name, value in worth.items()):
+        raise ValueError(f"not powers of two: {worth}")
+    total = re.search(r"\(a as u64\)(?: \+ (\w+) \* \(b as u64\))(?: \+ (\w+) \* \(c as u64\))(?: \+ (\w+) \* \(d as u64\))", text)
+    return [0] + [powers[name] for name in total.groups()], powers["WORD"], powers["BYTE"]
+
+
+def named(first, width, name):
+    return f"bits {first}-{first + width - 1}", name
+
+
+def field(word):
+    """A word that is packed, by its name: a number that stands there always is `-`, if it is 0."""
+    word = word.removesuffix(" as u16").removesuffix(".0")
+    return "-" if word == "0" else word
+
+
+def from_code(read):
+    """The four tables, by the code: `read` gives the text of a file of crates/numbers/src."""
+    starts, word, byte = bits(read("packing.rt"))
+    place = [f"bits {start}-{start + word - 1}" for start in starts]
+    session, config, command, outcome = (read(f"{name}_number.rt") for name in ("session", "config", "command", "outcome"))
+
+    state, status = re.search(r"two_bytes\(session\.(\w+), session\.(\w+)\), pending", session).groups()
+    head = [named(0, byte, state), named(byte, byte, status), named(starts[1], word, "kind")]
+    rows = [(arm, *map(str.strip, words.split(","))) for arm, words in ARM.findall(session)]
+    kinds = sorted((int(kind), SESSION[arm], field(c), field(d)) for arm, first, kind, c, d in rows if first == "head")
+
+    pairs = re.findall(r"two_bytes\(config\.(\w+), config\.(\w+)\)", config)
+    eight = [named(start + half * byte, byte, CONFIG[pair[half]]) for start, pair in zip(starts, pairs) for half in (0, 1)]
+
+    of_range = {arm: words.split(",")[0].strip() for arm, words in ARM.findall(command) if arm.startswith("Range::")}
+    more = {arm: int(first == "(kind as u16) + 1") for arm, first in of_range.items()}
+    commands = [(int(kind) + more[memory], COMMAND[f"{arm} {memory}"], "start", "end")
+                for arm, kind in re.findall(r"(Command::\w+)\(range\) => pack_range\((\d+), range\)", command) for memory in more]
+    for arm, words in ARM.findall(command):
+        if not arm.startswith("Range::"):
+            kind, b, c, _ = map(str.strip, words.split(","))
+            commands.append((int(kind), COMMAND[arm], field(b), field(c)))
+
+    outcomes = sorted((int(kind), OUTCOME[arm], field(b)) for arm, words in ARM.findall(outcome) for kind, b in [words.split(", ")[:2]])
+    return {
+        "Session": (head, ("what is pending", place[2], place[3]), kinds),
+        "Configuration": (eight, (), []),
+        "Command": ([], ("command", place[1], place[2]), sorted(commands)),
+        "Outcome": ([], ("outcome", place[1]), outcomes),
+    }
+
+
+def from_header(text):
+    """The four tables, by the header's first comment."""
+    comment = re.match(r"/\*(.*?)\*/", text, re.DOTALL)[1]
+    tables = {}
+    for title, body in re.findall(r"^ \* (\w+): .*?\n((?:^ \*(?:   .*)?\n)+)", comment, re.MULTILINE):
+        head, columns, rows = [], (), []
+        for line in (line[2:].strip() for line in body.splitlines()):
+            words = re.split(r"  +", line)
+            if re.match(r"bits \d+-\d+$", words[0]):
+                head.append(tuple(words))
+            elif words[0] == "kind":
+                columns = tuple(words[1:])
+            elif words[0].isdigit():
+                rows.append((int(words[0]), *words[1:]))
+        tables[title] = (head, columns, rows)
+    return tables
