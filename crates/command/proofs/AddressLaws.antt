@@ -5,8 +5,8 @@ use mathlib.Core.Bool.{Bool, true, false, _||_, true≢false}
 use Prim.Native.Nat.{_≤_, _<_}
 use lib.Dec.{leb, ltb}
 use borrow.Author.Tests.{ltb-false, leb-false}
-use Rattle.board.specs.declared.address.Range.{Range}
-use Rattle.board.specs.Memory.{rangeStart, rangeEnd, rangeCount, memorySize}
+use Rattle.memory.specs.declared.address.Range.{Range}
+use Rattle.memory.specs.Memory.{rangeStart, rangeEnd, rangeCount, memorySize}
 use Rattle.command.specs.Address.{badRange, mostBytes}
 
 pub or-false : (t u : Bool) → (t || u) ≡ false → (t ≡ false) × (u ≡ false)

@@ -10,9 +10,9 @@ use lib.Dec.{eqb, leb}
 use lib.ListN.{length}
 use borrow.Author.Tests.{eqb-true, leb-true}
 use Rattle.words.specs.Words.{if_then_else_, byteAt, highFirst}
-use Rattle.board.specs.Config.{readable, writable}
-use Rattle.board.specs.declared.address.Block.{Block}
-use Rattle.board.specs.declared.address.Block.the-variants.{Low, Middle, High}
+use Rattle.config.specs.Config.{readable, writable}
+use Rattle.memory.specs.declared.address.Block.{Block}
+use Rattle.memory.specs.declared.address.Block.the-variants.{Low, Middle, High}
 use Rattle.command.specs.Form.{Command, Program, Read, BlankCheck, EraseBlock, EraseChip, WriteByte, WriteHsb, StartReset, StartAt, ReadVersion, ReadByte}
 use Rattle.command.specs.Form.{ReadHsb, blockCode, flashAt, flashRange, eepromRange, exactly, sixOrMore, form}
 

@@ -8,8 +8,8 @@ use native.Mathlib.Omega.{arith}
 use lib.ListN.{length, drop, length-drop}
 use lib.Seq.{length-take-le}
 use borrow.Author.Tests.{eqb-true, not-false}
-use Rattle.board.specs.declared.address.Range.{Range}
-use Rattle.board.specs.Memory.{rangeCount}
+use Rattle.memory.specs.declared.address.Range.{Range}
+use Rattle.memory.specs.Memory.{rangeCount}
 use Rattle.command.specs.Form.{Program}
 use Rattle.command.specs.Transfer.{transferLength, bodyPlace, bodyOf, badLength}
 use Rattle.command.proofs.AddressLaws.{Good}

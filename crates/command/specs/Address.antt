@@ -2,9 +2,9 @@
 use mathlib.Core.Bool.{Bool, false, _||_}
 use Prim.Native.Nat.{ℕ}
 use lib.Dec.{leb, ltb}
-use Rattle.board.specs.declared.address.Range.{Range}
-use Rattle.board.specs.declared.address.FlashAddress.{FlashAddress}
-use Rattle.board.specs.Memory.{lastFlash, rangeStart, rangeEnd, rangeCount, memorySize}
+use Rattle.memory.specs.declared.address.Range.{Range}
+use Rattle.memory.specs.declared.address.FlashAddress.{FlashAddress}
+use Rattle.memory.specs.Memory.{lastFlash, rangeStart, rangeEnd, rangeCount, memorySize}
 use Rattle.command.specs.Form.{Command, Program, Read, BlankCheck, EraseBlock, EraseChip, WriteByte, WriteHsb, StartReset, StartAt, ReadVersion, ReadByte}
 use Rattle.command.specs.Form.{ReadHsb}
 

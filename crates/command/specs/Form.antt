@@ -6,14 +6,14 @@ use Prim.Native.Nat.{ℕ}
 use lib.Dec.{eqb, leb}
 use lib.ListN.{length}
 use Rattle.words.specs.Words.{if_then_else_, byteAt, highFirst}
-use Rattle.board.specs.Memory.{flashAddress, eepromAddress}
-use Rattle.board.specs.declared.address.FlashAddress.{FlashAddress}
-use Rattle.board.specs.declared.address.EepromAddress.{EepromAddress}
-use Rattle.board.specs.declared.address.Range.{Range}
-use Rattle.board.specs.declared.address.Range.the-variants.{Flash, Eeprom}
-use Rattle.board.specs.declared.address.Block.{Block}
-use Rattle.board.specs.declared.address.Block.the-variants.{Low, Middle, High}
-use Rattle.board.specs.Config.{readable, writable}
+use Rattle.memory.specs.Memory.{flashAddress, eepromAddress}
+use Rattle.memory.specs.declared.address.FlashAddress.{FlashAddress}
+use Rattle.memory.specs.declared.address.EepromAddress.{EepromAddress}
+use Rattle.memory.specs.declared.address.Range.{Range}
+use Rattle.memory.specs.declared.address.Range.the-variants.{Flash, Eeprom}
+use Rattle.memory.specs.declared.address.Block.{Block}
+use Rattle.memory.specs.declared.address.Block.the-variants.{Low, Middle, High}
+use Rattle.config.specs.Config.{readable, writable}
 pub use Rattle.command.specs.declared.form.Form.{Form}
 pub use Rattle.command.specs.declared.form.Form.the-variants.{Is, Unlisted}
 pub use Rattle.command.specs.declared.command.Command.{Command}

@@ -5,8 +5,8 @@ use mathlib.Core.List.{List}
 use Prim.Native.Nat.{ℕ, _+_, _%_}
 use lib.Dec.{eqb}
 use lib.ListN.{length, take, drop}
-use Rattle.board.specs.declared.address.Range.{Range}
-use Rattle.board.specs.Memory.{rangeStart, rangeCount}
+use Rattle.memory.specs.declared.address.Range.{Range}
+use Rattle.memory.specs.Memory.{rangeStart, rangeCount}
 use Rattle.command.specs.Form.{Command, Program, Read, BlankCheck, EraseBlock, EraseChip, WriteByte, WriteHsb, StartReset, StartAt, ReadVersion, ReadByte}
 use Rattle.command.specs.Form.{ReadHsb}
 pub use Rattle.command.specs.declared.transfer.Transfer.{Transfer}

@@ -6,10 +6,10 @@ ghost use Rattle.words.specs.Words.{count};
 ghost use Rattle.command.specs.Address.{badRange, badCheck, badAddress, pastFlash, mostBytes};
 use crate::MOST_BYTES;
 use crate::command::Command;
-use board::EEPROM_SIZE;
-use board::FLASH_SIZE;
-use board::FlashAddress;
-use board::Range;
+use memory::EEPROM_SIZE;
+use memory::FLASH_SIZE;
+use memory::FlashAddress;
+use memory::Range;
 
 // "0000h to 7FFFh"
 const LAST_FLASH: u16 = 0x7FFF;

@@ -1,7 +1,7 @@
 // The commands.
-use board::Block;
-use board::FlashAddress;
-use board::Range;
+use memory::Block;
+use memory::FlashAddress;
+use memory::Range;
 
 // A command, as the table of document 01 has it. A program transfer's bytes stand beside it, in the data.
 pub enum Command {

@@ -3,10 +3,10 @@ ghost use mathlib.Core.Path.{_≡_};
 ghost use Rattle.command.specs.Form.{form, formOf, exactly, sixOrMore, zeroThird, flashRange, eepromRange};
 ghost use Rattle.command.specs.Form.{blankForm, eraseForm, writeForm, startForm, indexForm};
 use crate::command::Command;
-use board::Block;
-use board::EepromAddress;
-use board::FlashAddress;
-use board::Range;
+use memory::Block;
+use memory::EepromAddress;
+use memory::FlashAddress;
+use memory::Range;
 
 // A command, or data that the table has not.
 pub enum Form {
@@ -90,7 +90,7 @@ fn write_form(sent: &[u8]) -> Form
 {
     let index = words::byte_at(sent, 2);
     let value = words::byte_at(sent, 3);
-    if board::is_writable(index) {
+    if config::is_writable(index) {
         return exact(sent, 4, Command::WriteByte(index, value));
     }
     Form::Unlisted
@@ -115,7 +115,7 @@ fn index_form(sent: &[u8]) -> Form
     ensures { λ r. ⌜ r ≡ formOf (indexForm (now (sent .entry))) ⌝ }
 {
     let index = words::byte_at(sent, 2);
-    if board::is_readable(index) {
+    if config::is_readable(index) {
         return exact(sent, 3, Command::ReadByte(index));
     }
     Form::Unlisted

@@ -2,12 +2,12 @@
 ghost use mathlib.Core.Path.{_≡_};
 ghost use Prim.Native.Nat.{_≤_};
 ghost use Rattle.words.specs.Words.{count};
-ghost use Rattle.board.specs.Memory.{rangeCount};
+ghost use Rattle.memory.specs.Memory.{rangeCount};
 ghost use Rattle.command.specs.Transfer.{bodyPlace, transferOf, wrongLength};
 use crate::COMMAND_SIZE;
 use crate::SUFFIX_SIZE;
 use crate::command::Command;
-use board::Range;
+use memory::Range;
 
 // Whether a command is a program transfer.
 pub enum Transfer {

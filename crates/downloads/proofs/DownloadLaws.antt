@@ -7,7 +7,7 @@ use Prim.Native.Nat.{ℕ}
 use lib.Dec.{eqb}
 use lib.ListN.{length}
 use borrow.Author.Tests.{eq-eqb, ne-eqb}
-use Rattle.board.specs.Memory.{flashSize, eepromSize}
+use Rattle.memory.specs.Memory.{flashSize, eepromSize}
 use Rattle.rules.specs.Result.{Board}
 use Rattle.rules.specs.Commands.{stall}
 use Rattle.rules.specs.Requests.{dnload}

@@ -7,11 +7,11 @@ ghost use Rattle.rules.specs.Requests.{endPlain, endDownload, dnload as dnloadO
 ghost use Rattle.downloads.specs.Download.{downloaded};
 ghost use Rattle.rules.specs.Answered.{bare, Answered, Sizes, Formed};
 use crate::perform::perform;
-use board::Config;
-use board::EEPROM_SIZE;
-use board::FLASH_SIZE;
 use command::Command;
 use command::Form;
+use config::Config;
+use memory::EEPROM_SIZE;
+use memory::FLASH_SIZE;
 use requests::level_status;
 use requests::quiet;
 use requests::stall;
@@ -36,7 +36,7 @@ fn obey(
     ensures { λ r. let b = boardOf session config (now (flash .entry)) (now (eeprom .entry)) in
         ⌜ Answered b (obeyOf b command (now (sent .entry))) r (now (flash .exit)) (now (eeprom .exit)) ⌝ }
 {
-    let level = board::level_of(config);
+    let level = config::level_of(config);
     let status = level_status(command, level);
     let wrong = command::bad_address(command);
     if status != 0x00 {

@@ -2,18 +2,18 @@
 ghost use mathlib.Core.Path.{_≡_};
 ghost use mathlib.Core.Bool.{true};
 ghost use lib.ListN.{length};
-ghost use Rattle.board.specs.Config.{readable, configByte};
+ghost use Rattle.config.specs.Config.{readable, configByte};
 ghost use Rattle.rules.specs.Session.{idle};
-ghost use Rattle.board.specs.Blank.{usedIn};
+ghost use Rattle.blank.specs.Blank.{usedIn};
 ghost use Rattle.rules.specs.Result.{board as boardOf, answer};
 ghost use Rattle.rules.specs.Commands.{perform as performOf, accept, blankEffect};
 ghost use Rattle.rules.specs.Answered.{Answered, Acceptable, acceptedAnswer};
-use board::ByteRead;
-use board::Config;
-use board::FlashAddress;
-use board::Range;
-use board::Used;
+use blank::Used;
 use command::Command;
+use config::ByteRead;
+use config::Config;
+use memory::FlashAddress;
+use memory::Range;
 use rules::Answer;
 use rules::Outcome;
 use rules::Pending;
@@ -59,7 +59,7 @@ fn byte_of(config: Config, index: u8) -> u8
     requires { ⌜ readable index ≡ true ⌝ }
     ensures { λ r. ⌜ r ≡ configByte index config ⌝ }
 {
-    match board::read_byte(config, index) {
+    match config::read_byte(config, index) {
         ByteRead::Value(value) => value,
         ByteRead::Unknown => 0,
     }
@@ -73,7 +73,7 @@ fn program(config: Config, range: Range, sent: &[u8], flash: &mut [u8], eeprom: 
 {
     let body = command::body_place(range);
     let suffix = body + command::range_count(range);
-    let pages = board::program(range, &sent[body..suffix], flash, eeprom);
+    let pages = memory::program(range, &sent[body..suffix], flash, eeprom);
     stores(config, pages)
 }
 
@@ -82,7 +82,7 @@ fn blank_check(config: Config, start: FlashAddress, end: FlashAddress, flash: &[
     ensures { λ r. let found = usedIn (start .0) (end .0) (now (flash .entry)) in
         ⌜ r ≡ answer (accept (Command.BlankCheck start end) (blankEffect config found)) ⌝ }
 {
-    match board::first_used(flash, start, end) {
+    match blank::first_used(flash, start, end) {
         Used::At(address) => accepted(config, 0x05, Pending::BlankReport(address), 0),
         Used::Nowhere => accepted(config, 0x00, Pending::Nothing, 0),
     }
@@ -104,16 +104,16 @@ pub(crate) fn perform(
         Command::Program(range) => program(config, range, sent, flash, eeprom),
         Command::Read(range) => leaves(config, Pending::MemoryRead(range)),
         Command::BlankCheck(start, end) => blank_check(config, start, end, flash),
-        Command::EraseBlock(block) => stores(config, board::erase_block(flash, block)),
+        Command::EraseBlock(block) => stores(config, memory::erase_block(flash, block)),
         Command::EraseChip => {
-            let pages = board::erase_chip(flash);
-            stores(board::config_after_erase(config), pages)
+            let pages = memory::erase_chip(flash);
+            stores(config::config_after_erase(config), pages)
         }
         Command::WriteByte(index, value) => leaves(
-            board::write_byte(config, index, value),
+            config::write_byte(config, index, value),
             Pending::Nothing,
         ),
-        Command::WriteHsb(value) => leaves(board::write_hsb(config, value), Pending::Nothing),
+        Command::WriteHsb(value) => leaves(config::write_hsb(config, value), Pending::Nothing),
         Command::StartReset => leaves(
             config,
             Pending::Start(StartKind::Reset, FlashAddress(0x0000)),

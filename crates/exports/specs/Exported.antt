@@ -5,7 +5,7 @@ use Prim.Native.Nat.{ℕ}
 use lib.ListN.{length}
 use Rattle.command.specs.declared.reader.Reading.{Reading}
 use Rattle.command.specs.declared.reader.Reading.the-variants.{Taken, Stalls, BadAddress}
-use Rattle.loader.specs.Result.{Board, board, Result, next, pages, replyAfter}
+use Rattle.rules.specs.Result.{Board, board, Result, next, pages, replyAfter}
 use Rattle.numbers.specs.Layout.{sessionOf, configOf, packSession, packConfig, packOutcome, packCommand, numberAfter}
 
 -- the board whose session and configuration are lent as numbers

@@ -9,8 +9,8 @@ ghost use Rattle.command.specs.Reader.{readCommand, readingStatus};
 ghost use Rattle.writer.specs.Writer.{writeCommand, roomAfter, writtenNumber, writtenCount};
 ghost use Rattle.job.specs.Requests.{requestCount};
 ghost use Rattle.job.specs.Verdict.{verdict, verdictNumber, verdictPlace};
-ghost use Rattle.loader.specs.Session.{idle};
-ghost use Rattle.loader.specs.Step.{ask};
+ghost use Rattle.rules.specs.Session.{idle};
+ghost use Rattle.rules.specs.Step.{ask};
 ghost use Rattle.numbers.specs.Layout.{packSession, commandOf};
 ghost use Rattle.exports.specs.Exported.{StepTold, numbered, commandTold, bodyTold, suffixTold};
 use command::Reading;
@@ -59,7 +59,7 @@ pub extern "C" fn loader_step(
 pub extern "C" fn loader_power_up() -> u64
     ensures { λ r. ⌜ r ≡ packSession idle ⌝ }
 {
-    numbers::pack_session(loader::power_up())
+    numbers::pack_session(requests::power_up())
 }
 
 // Reads the data of a DNLOAD: 0 with the command and the places of its body and suffix, or 0Fh for a stall, or 08h.

@@ -12,7 +12,7 @@ use prog.Routine.{Routine}
 use prog.Wp.{Heap}
 use ghost.Atoms.{Atoms}
 use contract.Monad.{Fun, fact}
-use Rattle.board.specs.declared.config.Config.{Config}
+use Rattle.config.specs.declared.config.Config.{Config}
 use Rattle.rules.specs.declared.session.Session.{Session}
 use Rattle.rules.specs.declared.answer.Answer.{Answer}
 use Rattle.rules.specs.Result.{board}

@@ -3,7 +3,7 @@ ghost use lib.ListN.{length};
 ghost use Rattle.rules.specs.Result.{board as boardOf};
 ghost use Rattle.rules.specs.Step.{ask};
 ghost use Rattle.rules.specs.Answered.{Handled};
-use board::Config;
+use config::Config;
 use loader::step;
 use rules::Answer;
 use rules::Session;

@@ -5,7 +5,7 @@ ghost use lib.ListN.{length};
 ghost use Rattle.rules.specs.Requests.{entered as enteredFrom, getStatus, getState};
 ghost use Rattle.rules.specs.Refusals.{replySize};
 ghost use Rattle.rules.specs.Answered.{bare, Replied};
-use board::Config;
+use config::Config;
 use rules::Answer;
 use rules::Outcome;
 use rules::Session;

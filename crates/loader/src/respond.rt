@@ -10,7 +10,7 @@ ghost use Rattle.rules.specs.Answered.{Room, Stepped};
 use crate::report::get_state;
 use crate::report::get_status;
 use crate::upload::upload;
-use board::Config;
+use config::Config;
 use downloads::dnload;
 use requests::abort;
 use requests::clr_status;

@@ -8,11 +8,11 @@ ghost use Rattle.rules.specs.Result.{board as boardOf};
 ghost use Rattle.rules.specs.Requests.{restOf, readSent, send as sendOf, upload as uploadOf};
 ghost use Rattle.rules.specs.Refusals.{badPending, replySize};
 ghost use Rattle.rules.specs.Answered.{bare, Replied, firstOf, Splits, Room, Sendable, sendPending, sentAnswer};
-use board::Config;
-use board::EepromAddress;
-use board::FlashAddress;
-use board::Level;
-use board::Range;
+use config::Config;
+use config::Level;
+use memory::EepromAddress;
+use memory::FlashAddress;
+use memory::Range;
 use requests::stall;
 use rules::Answer;
 use rules::Outcome;
@@ -71,10 +71,10 @@ fn send_read(
 {
     let all = command::range_count(range);
     if (n as usize) < all {
-        let count = board::read(first_of(range, n), flash, eeprom, reply);
+        let count = memory::read(first_of(range, n), flash, eeprom, reply);
         return sent(config, 9, Pending::MemoryRead(rest_of(range, n)), count);
     }
-    let count = board::read(range, flash, eeprom, reply);
+    let count = memory::read(range, flash, eeprom, reply);
     sent(config, 2, Pending::Nothing, count)
 }
 
@@ -132,7 +132,7 @@ fn send(
     match pending {
         Pending::Nothing => stall(session, config),
         Pending::MemoryRead(range) => {
-            if read_sent(board::level_of(config)) {
+            if read_sent(config::level_of(config)) {
                 return send_read(config, range, n, flash, eeprom, reply);
             }
             stall(session, config)

@@ -4,13 +4,13 @@ use mathlib.Core.Path.{_≡_, refl}
 use Prim.Native.Nat.{ℕ}
 use native.Mathlib.Omega.{arith}
 use lib.Dec.{lit≤}
-use Rattle.board.specs.declared.address.Range.the-variants.{Flash, Eeprom}
-use Rattle.board.specs.declared.address.Block.the-variants.{Low, Middle, High}
+use Rattle.memory.specs.declared.address.Range.the-variants.{Flash, Eeprom}
+use Rattle.memory.specs.declared.address.Block.the-variants.{Low, Middle, High}
 use Rattle.command.specs.declared.command.Command.the-variants.{Program, Read, BlankCheck, EraseBlock, EraseChip, WriteByte, WriteHsb, StartReset, StartAt}
 use Rattle.command.specs.declared.command.Command.the-variants.{ReadVersion, ReadByte, ReadHsb}
-use Rattle.loader.specs.declared.session.Pending.{Pending}
-use Rattle.loader.specs.declared.session.Pending.the-variants.{Nothing, MemoryRead, BlankReport, OneByte, Start}
-use Rattle.loader.specs.declared.session.StartKind.the-variants.{Reset, AtAddress}
+use Rattle.rules.specs.declared.session.Pending.{Pending}
+use Rattle.rules.specs.declared.session.Pending.the-variants.{Nothing, MemoryRead, BlankReport, OneByte, Start}
+use Rattle.rules.specs.declared.session.StartKind.the-variants.{Reset, AtAddress}
 use Rattle.numbers.specs.Layout.{packed, word0, word1, word2, word3, lowByte, highByte, twoBytes, packPending, pendingOf, commandFor}
 use Rattle.numbers.specs.Unpacked.{Byte, Word, PendingFits, SessionKept, ConfigKept, CommandKept}
 

@@ -2,24 +2,24 @@
 use Prim.Native.Nat.{ℕ, _+_, _*_, _/_, _%_}
 use lib.Dec.{eqb}
 use Rattle.words.specs.Words.{if_then_else_}
-use Rattle.board.specs.Memory.{flashAddress, eepromAddress}
-use Rattle.board.specs.declared.address.FlashAddress.{FlashAddress}
-use Rattle.board.specs.declared.address.Range.{Range}
-use Rattle.board.specs.declared.address.Range.the-variants.{Flash, Eeprom}
-use Rattle.board.specs.declared.address.Block.{Block}
-use Rattle.board.specs.declared.address.Block.the-variants.{Low, Middle, High}
-use Rattle.board.specs.declared.config.Config.{Config}
+use Rattle.memory.specs.Memory.{flashAddress, eepromAddress}
+use Rattle.memory.specs.declared.address.FlashAddress.{FlashAddress}
+use Rattle.memory.specs.declared.address.Range.{Range}
+use Rattle.memory.specs.declared.address.Range.the-variants.{Flash, Eeprom}
+use Rattle.memory.specs.declared.address.Block.{Block}
+use Rattle.memory.specs.declared.address.Block.the-variants.{Low, Middle, High}
+use Rattle.config.specs.declared.config.Config.{Config}
 use Rattle.command.specs.declared.command.Command.{Command}
 use Rattle.command.specs.declared.command.Command.the-variants.{Program, Read, BlankCheck, EraseBlock, EraseChip, WriteByte, WriteHsb, StartReset, StartAt}
 use Rattle.command.specs.declared.command.Command.the-variants.{ReadVersion, ReadByte, ReadHsb}
-use Rattle.loader.specs.Session.{session}
-use Rattle.loader.specs.declared.session.Session.{Session}
-use Rattle.loader.specs.declared.session.Pending.{Pending}
-use Rattle.loader.specs.declared.session.Pending.the-variants.{Nothing, MemoryRead, BlankReport, OneByte, Start}
-use Rattle.loader.specs.declared.session.StartKind.{StartKind}
-use Rattle.loader.specs.declared.session.StartKind.the-variants.{Reset, AtAddress}
-use Rattle.loader.specs.declared.answer.Outcome.{Outcome}
-use Rattle.loader.specs.declared.answer.Outcome.the-variants.{Done, Stall, Started, Refused}
+use Rattle.rules.specs.Session.{session}
+use Rattle.rules.specs.declared.session.Session.{Session}
+use Rattle.rules.specs.declared.session.Pending.{Pending}
+use Rattle.rules.specs.declared.session.Pending.the-variants.{Nothing, MemoryRead, BlankReport, OneByte, Start}
+use Rattle.rules.specs.declared.session.StartKind.{StartKind}
+use Rattle.rules.specs.declared.session.StartKind.the-variants.{Reset, AtAddress}
+use Rattle.rules.specs.declared.answer.Outcome.{Outcome}
+use Rattle.rules.specs.declared.answer.Outcome.the-variants.{Done, Stall, Started, Refused}
 
 -- ---- four words of 16 bits in a number, the lowest first
 

@@ -2,15 +2,15 @@
 -- proofs/LayoutHolds.antt.
 use mathlib.Core.Path.{_≡_}
 use Prim.Native.Nat.{ℕ, _<_}
-use Rattle.board.specs.declared.address.Range.{Range}
-use Rattle.board.specs.Memory.{rangeStart, rangeEnd}
-use Rattle.board.specs.declared.config.Config.{Config}
+use Rattle.memory.specs.declared.address.Range.{Range}
+use Rattle.memory.specs.Memory.{rangeStart, rangeEnd}
+use Rattle.config.specs.declared.config.Config.{Config}
 use Rattle.command.specs.declared.command.Command.{Command}
 use Rattle.command.specs.declared.command.Command.the-variants.{Program, Read, BlankCheck, EraseBlock, EraseChip, WriteByte, WriteHsb, StartReset, StartAt}
 use Rattle.command.specs.declared.command.Command.the-variants.{ReadVersion, ReadByte, ReadHsb}
-use Rattle.loader.specs.declared.session.Session.{Session}
-use Rattle.loader.specs.declared.session.Pending.{Pending}
-use Rattle.loader.specs.declared.session.Pending.the-variants.{Nothing, MemoryRead, BlankReport, OneByte, Start}
+use Rattle.rules.specs.declared.session.Session.{Session}
+use Rattle.rules.specs.declared.session.Pending.{Pending}
+use Rattle.rules.specs.declared.session.Pending.the-variants.{Nothing, MemoryRead, BlankReport, OneByte, Start}
 use Rattle.numbers.specs.Layout.{packSession, sessionOf, packConfig, configOf, packCommand, commandOf}
 
 -- a byte, a word of 16 bits, the two words of a range

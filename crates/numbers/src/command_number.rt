@@ -6,11 +6,11 @@ use crate::packing::low_byte;
 use crate::packing::pack_words;
 use crate::packing::second_word;
 use crate::packing::third_word;
-use board::Block;
-use board::EepromAddress;
-use board::FlashAddress;
-use board::Range;
 use command::Command;
+use memory::Block;
+use memory::EepromAddress;
+use memory::FlashAddress;
+use memory::Range;
 
 fn pack_range(kind: u8, range: Range) -> u64
     ensures { λ r. ⌜ r ≡ packRange kind range ⌝ }

@@ -9,7 +9,7 @@ use crate::packing::pack_words;
 use crate::packing::second_word;
 use crate::packing::third_word;
 use crate::packing::two_bytes;
-use board::Config;
+use config::Config;
 
 // The number of a configuration.
 pub fn pack_config(config: Config) -> u64

@@ -2,9 +2,9 @@
 ghost use mathlib.Core.Path.{_≡_};
 ghost use Rattle.numbers.specs.Layout.{packStarted, packOutcome, numberAfter};
 use crate::packing::pack_words;
-use board::FlashAddress;
-use loader::Outcome;
-use loader::StartKind;
+use memory::FlashAddress;
+use rules::Outcome;
+use rules::StartKind;
 
 fn pack_started(kind: StartKind, address: FlashAddress) -> u64
     ensures { λ r. ⌜ r ≡ packStarted kind address ⌝ }

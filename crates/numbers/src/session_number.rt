@@ -9,12 +9,12 @@ use crate::packing::pack_words;
 use crate::packing::second_word;
 use crate::packing::third_word;
 use crate::packing::two_bytes;
-use board::EepromAddress;
-use board::FlashAddress;
-use board::Range;
-use loader::Pending;
-use loader::Session;
-use loader::StartKind;
+use memory::EepromAddress;
+use memory::FlashAddress;
+use memory::Range;
+use rules::Pending;
+use rules::Session;
+use rules::StartKind;
 
 fn pack_read(head: u16, range: Range) -> u64
     ensures { λ r. ⌜ r ≡ packRead head range ⌝ }

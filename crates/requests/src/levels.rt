@@ -1,8 +1,8 @@
 // The table of levels: what a level says to a command.
 ghost use mathlib.Core.Path.{_≡_};
 ghost use Rattle.rules.specs.Levels.{Row, cell, levelStatus};
-use board::Level;
 use command::Command;
+use config::Level;
 
 // Program, block erase and write HSB.
 fn write_row(level: Level) -> u8

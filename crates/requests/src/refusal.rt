@@ -1,11 +1,11 @@
 // The numbered refusals of a request, 1 to 7.
 ghost use mathlib.Core.Path.{_≡_};
 ghost use lib.ListN.{length};
-ghost use Rattle.board.specs.Config.{deliveredConfig};
+ghost use Rattle.config.specs.Config.{deliveredConfig};
 ghost use Rattle.rules.specs.Result.{board};
 ghost use Rattle.rules.specs.Refusals.{knownState, badPending, badSession, badData, refusal};
-use board::EEPROM_SIZE;
-use board::FLASH_SIZE;
+use memory::EEPROM_SIZE;
+use memory::FLASH_SIZE;
 use rules::Pending;
 use rules::Session;
 

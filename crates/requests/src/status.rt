@@ -6,7 +6,7 @@ ghost use Rattle.rules.specs.Result.{reply as replyOf, answer};
 ghost use Rattle.rules.specs.Commands.{stall as stallOf};
 ghost use Rattle.rules.specs.Requests.{clrStatus, abort as abortOf};
 ghost use Rattle.rules.specs.Answered.{bare};
-use board::Config;
+use config::Config;
 use rules::Answer;
 use rules::Outcome;
 use rules::Pending;

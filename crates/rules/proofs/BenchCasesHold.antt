@@ -12,18 +12,18 @@ use lib.ListN.{length, take, drop, length-append}
 use lib.Seq.{take-at, drop-at}
 use borrow.Author.Tests.{le-ltb, lt-leb, le-leb, eq-eqb}
 use Rattle.words.specs.Words.{count, Programmed}
-use Rattle.board.specs.Memory.{flashSize, eepromSize, flashPages, lastFlash, flashAddress}
-use Rattle.board.specs.Pages.{pagesMet, programStores, chipStores}
-use Rattle.board.specs.Blank.{usedIn}
-use Rattle.board.specs.Config.{erasedConfig}
-use Rattle.board.specs.Level.{level}
-use Rattle.board.specs.declared.address.Range.{Range}
-use Rattle.board.specs.declared.address.Range.the-variants.{Flash}
-use Rattle.board.specs.declared.config.Config.{Config}
-use Rattle.board.specs.declared.level.Level.{Level}
-use Rattle.board.specs.declared.level.Level.the-variants.{L0, L2}
-use Rattle.board.proofs.PagesLaws.{programStores-programmed, length-programStores, storeAll-chipStores, length-chipStores}
-use Rattle.board.proofs.BlankLaws.{usedIn-whole}
+use Rattle.memory.specs.Memory.{flashSize, eepromSize, flashPages, lastFlash, flashAddress}
+use Rattle.memory.specs.Pages.{pagesMet, programStores, chipStores}
+use Rattle.blank.specs.Blank.{usedIn}
+use Rattle.config.specs.Config.{erasedConfig}
+use Rattle.config.specs.Level.{level}
+use Rattle.memory.specs.declared.address.Range.{Range}
+use Rattle.memory.specs.declared.address.Range.the-variants.{Flash}
+use Rattle.config.specs.declared.config.Config.{Config}
+use Rattle.config.specs.declared.level.Level.{Level}
+use Rattle.config.specs.declared.level.Level.the-variants.{L0, L2}
+use Rattle.memory.proofs.PagesLaws.{programStores-programmed, length-programStores, storeAll-chipStores, length-chipStores}
+use Rattle.blank.proofs.BlankLaws.{usedIn-whole}
 use Rattle.command.specs.Form.{form}
 use Rattle.command.specs.Address.{badRange, mostBytes}
 use Rattle.command.specs.Transfer.{bodyPlace, bodyOf, transferLength}

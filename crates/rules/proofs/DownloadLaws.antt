@@ -9,10 +9,10 @@ use native.Mathlib.Omega.{arith}
 use lib.Dec.{eqb}
 use borrow.Author.Tests.{eq-eqb, ne-eqb, lt-ltb, le-ltb}
 use Rattle.words.specs.Words.{if_then_else_, among}
-use Rattle.board.specs.Level.{level}
-use Rattle.board.specs.declared.address.FlashAddress.{FlashAddress}
-use Rattle.board.specs.declared.address.Range.the-variants.{Flash, Eeprom}
-use Rattle.board.specs.declared.config.Config.{Config}
+use Rattle.config.specs.Level.{level}
+use Rattle.memory.specs.declared.address.FlashAddress.{FlashAddress}
+use Rattle.memory.specs.declared.address.Range.the-variants.{Flash, Eeprom}
+use Rattle.config.specs.declared.config.Config.{Config}
 use Rattle.command.specs.Form.{form, formOf}
 use Rattle.command.specs.Address.{badAddress}
 use Rattle.command.specs.Transfer.{badLength}

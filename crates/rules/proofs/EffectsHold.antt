@@ -9,19 +9,19 @@ use native.Mathlib.Omega.{arith}
 use lib.Dec.{eqb, ltb}
 use borrow.Author.Tests.{ne-eqb, le-ltb, eqb-false, ltb-false}
 use lib.ListN.{length}
-use Rattle.board.specs.Memory.{flashPages}
+use Rattle.memory.specs.Memory.{flashPages}
 use Rattle.words.specs.Words.{if_then_else_, among}
-use Rattle.board.specs.Blank.{usedIn}
-use Rattle.board.specs.Level.{level}
-use Rattle.board.specs.declared.address.Range.{Range}
-use Rattle.board.specs.declared.address.Range.the-variants.{Flash, Eeprom}
-use Rattle.board.specs.declared.level.Level.the-variants.{L0}
-use Rattle.board.specs.declared.address.Block.{Block}
-use Rattle.board.specs.Pages.{blockStores}
-use Rattle.board.specs.declared.address.Block.the-variants.{Low, Middle, High}
+use Rattle.blank.specs.Blank.{usedIn}
+use Rattle.config.specs.Level.{level}
+use Rattle.memory.specs.declared.address.Range.{Range}
+use Rattle.memory.specs.declared.address.Range.the-variants.{Flash, Eeprom}
+use Rattle.config.specs.declared.level.Level.the-variants.{L0}
+use Rattle.memory.specs.declared.address.Block.{Block}
+use Rattle.memory.specs.Pages.{blockStores}
+use Rattle.memory.specs.declared.address.Block.the-variants.{Low, Middle, High}
 use Rattle.words.proofs.WordsLaws.{overlay-programmed}
-use Rattle.board.proofs.PagesLaws.{programStores-programmed, blockStores-programmed, storeAll-chipStores, length-programStores, length-blockStores}
-use Rattle.board.proofs.PagesLaws.{length-chipStores, pagesMet-le}
+use Rattle.memory.proofs.PagesLaws.{programStores-programmed, blockStores-programmed, storeAll-chipStores, length-programStores, length-blockStores}
+use Rattle.memory.proofs.PagesLaws.{length-chipStores, pagesMet-le}
 use Rattle.command.specs.Form.{form}
 use Rattle.command.specs.Address.{badAddress}
 use Rattle.command.specs.Transfer.{bodyOf, badLength}
@@ -33,7 +33,7 @@ use Rattle.command.specs.declared.command.Command.the-variants.{StartAt, ReadVe
 use Rattle.command.proofs.AddressLaws.{Good, badRange-good}
 use Rattle.command.proofs.TransferLaws.{length-bodyOf}
 use Rattle.command.proofs.ReaderLaws.{passed, taken}
-use Rattle.command.proofs.RoundTripHolds.{writes-back}
+use Rattle.writer.proofs.RoundTripHolds.{writes-back}
 use Rattle.rules.specs.Result.{Board, Result, Stall, Refused}
 use Rattle.rules.specs.Session.{idle}
 use Rattle.rules.specs.Levels.{levelStatus}

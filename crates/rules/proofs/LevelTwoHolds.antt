@@ -15,16 +15,16 @@ use lib.Seq.{ext-getD}
 use borrow.Author.Count.{below-none, below-more}
 use borrow.Author.Tests.{eqb-true, eqb-false, eq-eqb, ne-eqb, le-ltb, lt-leb}
 use Rattle.words.specs.Words.{if_then_else_}
-use Rattle.board.specs.Memory.{flashSize, eepromSize, lastFlash, flashAddress, blankFlash}
-use Rattle.board.specs.Pages.{chipStores}
-use Rattle.board.specs.Blank.{usedIn}
-use Rattle.board.specs.Config.{ssbIndex}
-use Rattle.board.specs.Level.{level}
-use Rattle.board.specs.declared.address.FlashAddress.{FlashAddress}
-use Rattle.board.specs.declared.config.Config.{Config}
-use Rattle.board.specs.declared.level.Level.the-variants.{L2}
-use Rattle.board.proofs.PagesLaws.{storeAll-chipStores}
-use Rattle.board.proofs.BlankLaws.{marks, usedIn-same, usedIn-one}
+use Rattle.memory.specs.Memory.{flashSize, eepromSize, lastFlash, flashAddress, blankFlash}
+use Rattle.memory.specs.Pages.{chipStores}
+use Rattle.blank.specs.Blank.{usedIn}
+use Rattle.config.specs.Config.{ssbIndex}
+use Rattle.config.specs.Level.{level}
+use Rattle.memory.specs.declared.address.FlashAddress.{FlashAddress}
+use Rattle.config.specs.declared.config.Config.{Config}
+use Rattle.config.specs.declared.level.Level.the-variants.{L2}
+use Rattle.memory.proofs.PagesLaws.{storeAll-chipStores}
+use Rattle.blank.proofs.BlankLaws.{marks, usedIn-same, usedIn-one}
 use Rattle.command.specs.Form.{form}
 use Rattle.command.specs.declared.command.Command.{Command}
 use Rattle.command.specs.declared.command.Command.the-variants.{Program, Read, BlankCheck, EraseBlock, EraseChip, WriteByte, WriteHsb, StartReset}

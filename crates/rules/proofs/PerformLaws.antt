@@ -9,16 +9,16 @@ use native.Mathlib.Omega.{arith}
 use lib.ListN.{length, take, drop}
 use borrow.Author.Tests.{eq-eqb, eqb-true, not-false}
 use Rattle.words.specs.Words.{overlay}
-use Rattle.board.specs.Memory.{flashSize, rangeStart, rangeEnd, rangeCount, memorySize}
-use Rattle.board.specs.Read.{selected}
-use Rattle.board.specs.Pages.{storeAll, programStores, blockStores, chipStores}
-use Rattle.board.specs.Program.{programmable, flashStores, eepromAfter, programmedPages, programmedFlash, programmedEeprom}
-use Rattle.board.specs.Erase.{blockErase, chipErase}
-use Rattle.board.specs.declared.address.Block.{Block}
-use Rattle.board.specs.declared.address.Range.{Range}
-use Rattle.board.specs.declared.address.Range.the-variants.{Flash, Eeprom}
-use Rattle.board.specs.declared.config.Config.{Config}
-use Rattle.board.proofs.ProgramLaws.{fit}
+use Rattle.memory.specs.Memory.{flashSize, rangeStart, rangeEnd, rangeCount, memorySize}
+use Rattle.memory.specs.Read.{selected}
+use Rattle.memory.specs.Pages.{storeAll, programStores, blockStores, chipStores}
+use Rattle.memory.specs.Program.{programmable, flashStores, eepromAfter, programmedPages, programmedFlash, programmedEeprom}
+use Rattle.memory.specs.Erase.{blockErase, chipErase}
+use Rattle.memory.specs.declared.address.Block.{Block}
+use Rattle.memory.specs.declared.address.Range.{Range}
+use Rattle.memory.specs.declared.address.Range.the-variants.{Flash, Eeprom}
+use Rattle.config.specs.declared.config.Config.{Config}
+use Rattle.memory.proofs.ProgramLaws.{fit}
 use Rattle.command.specs.Transfer.{bodyPlace, bodyOf, transferLength}
 use Rattle.command.specs.declared.command.Command.the-variants.{Program}
 use Rattle.command.proofs.AddressLaws.{Good, badRange-good}

@@ -8,9 +8,9 @@ use native.Mathlib.Omega.{arith}
 use lib.Dec.{eqb, ltb}
 use lib.ListN.{length}
 use borrow.Author.Tests.{le-ltb, eq-eqb, ne-eqb}
-use Rattle.board.specs.declared.config.Config.{Config}
-use Rattle.board.specs.declared.level.Level.{Level}
-use Rattle.board.specs.Memory.{flashSize, eepromSize}
+use Rattle.config.specs.declared.config.Config.{Config}
+use Rattle.config.specs.declared.level.Level.{Level}
+use Rattle.memory.specs.Memory.{flashSize, eepromSize}
 use Rattle.command.specs.Form.{form}
 use Rattle.rules.specs.Session.{Session}
 use Rattle.rules.specs.Result.{Board, board}

@@ -10,8 +10,8 @@ use lib.Dec.{eqb, ltb}
 use lib.ListN.{length}
 use borrow.Author.Tests.{eqb-true, not-false}
 use Rattle.words.specs.Words.{if_then_else_, among}
-use Rattle.board.specs.Memory.{flashSize, eepromSize}
-use Rattle.board.specs.Level.{level}
+use Rattle.memory.specs.Memory.{flashSize, eepromSize}
+use Rattle.config.specs.Level.{level}
 use Rattle.command.specs.Form.{form}
 use Rattle.command.specs.Address.{badAddress}
 use Rattle.command.specs.Transfer.{badLength}

@@ -12,7 +12,7 @@ use types.Run.{OneOf}
 use borrow.Author.Tests.{le-leb, eq-eqb, ne-eqb}
 use Rattle.words.specs.Words.{among, laid}
 use Rattle.words.proofs.WordsLaws.{overlay-front}
-use Rattle.board.specs.declared.config.Config.{Config}
+use Rattle.config.specs.declared.config.Config.{Config}
 use Rattle.rules.specs.Session.{Session, idle}
 use Rattle.rules.specs.Result.{Answer, reply, answer, Done}
 use Rattle.rules.specs.Commands.{stall}

@@ -10,10 +10,10 @@ use lib.Dec.{eqb, ltb}
 use lib.ListN.{length}
 use borrow.Author.Tests.{eqb-true, ltb-false, eq-eqb, ne-eqb}
 use Rattle.words.specs.Words.{if_then_else_, among}
-use Rattle.board.specs.Memory.{flashSize, eepromSize}
-use Rattle.board.specs.Level.{level}
-use Rattle.board.specs.Config.{deliveredConfig}
-use Rattle.board.specs.declared.config.Config.{Config}
+use Rattle.memory.specs.Memory.{flashSize, eepromSize}
+use Rattle.config.specs.Level.{level}
+use Rattle.config.specs.Config.{deliveredConfig}
+use Rattle.config.specs.declared.config.Config.{Config}
 use Rattle.command.specs.Form.{form}
 use Rattle.command.specs.Address.{badAddress}
 use Rattle.command.specs.Transfer.{badLength}

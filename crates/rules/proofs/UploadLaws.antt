@@ -11,13 +11,13 @@ use lib.Seq.{length-take-le, take-all, take-take}
 use borrow.Author.Tests.{lt-ltb, le-ltb, le-leb}
 use Rattle.words.specs.Words.{among, count, part, laid}
 use Rattle.words.proofs.WordsLaws.{overlay-front}
-use Rattle.board.specs.Memory.{rangeStart, rangeEnd, rangeCount, memorySize}
-use Rattle.board.specs.Level.{level}
-use Rattle.board.specs.Read.{copied, bufferAfter, selected, readCount, readBuffer}
-use Rattle.board.specs.declared.address.FlashAddress.{FlashAddress}
-use Rattle.board.specs.declared.address.Range.{Range}
-use Rattle.board.specs.declared.address.Range.the-variants.{Flash, Eeprom}
-use Rattle.board.specs.declared.config.Config.{Config}
+use Rattle.memory.specs.Memory.{rangeStart, rangeEnd, rangeCount, memorySize}
+use Rattle.config.specs.Level.{level}
+use Rattle.memory.specs.Read.{copied, bufferAfter, selected, readCount, readBuffer}
+use Rattle.memory.specs.declared.address.FlashAddress.{FlashAddress}
+use Rattle.memory.specs.declared.address.Range.{Range}
+use Rattle.memory.specs.declared.address.Range.the-variants.{Flash, Eeprom}
+use Rattle.config.specs.declared.config.Config.{Config}
 use Rattle.command.specs.Address.{badRange}
 use Rattle.command.proofs.AddressLaws.{Good, badRange-good}
 use Rattle.rules.specs.Session.{Session, idle, Pending, Nothing, MemoryRead, BlankReport, OneByte}

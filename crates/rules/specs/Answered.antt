@@ -6,11 +6,11 @@ use mathlib.Core.Option.{some}
 use Prim.Native.Nat.{ℕ, _+_, _-_, _≤_, _<_}
 use lib.ListN.{length}
 use Rattle.words.specs.Words.{if_then_else_}
-use Rattle.board.specs.Level.{level}
-use Rattle.board.specs.Memory.{flashSize, eepromSize, flashAddress, eepromAddress, rangeStart, rangeEnd, memorySize}
-use Rattle.board.specs.declared.address.Range.{Range}
-use Rattle.board.specs.declared.address.Range.the-variants.{Flash, Eeprom}
-use Rattle.board.specs.declared.config.Config.{Config}
+use Rattle.config.specs.Level.{level}
+use Rattle.memory.specs.Memory.{flashSize, eepromSize, flashAddress, eepromAddress, rangeStart, rangeEnd, memorySize}
+use Rattle.memory.specs.declared.address.Range.{Range}
+use Rattle.memory.specs.declared.address.Range.the-variants.{Flash, Eeprom}
+use Rattle.config.specs.declared.config.Config.{Config}
 use Rattle.command.specs.Form.{form}
 use Rattle.command.specs.Address.{badAddress}
 use Rattle.command.specs.Transfer.{badLength}

@@ -6,11 +6,11 @@ use mathlib.Core.List.{List, [], _∷_, _++_}
 use Prim.Native.Nat.{ℕ, _/_, _%_, _≤_, _<_}
 use lib.ListN.{length, getD}
 use Rattle.words.specs.Words.{count, Programmed}
-use Rattle.board.specs.Memory.{flashSize, eepromSize, flashAddress, blankFlash}
-use Rattle.board.specs.Level.{level}
-use Rattle.board.specs.declared.config.Config.{Config}
-use Rattle.board.specs.declared.level.Level.{Level}
-use Rattle.board.specs.declared.level.Level.the-variants.{L0, L1, L2}
+use Rattle.memory.specs.Memory.{flashSize, eepromSize, flashAddress, blankFlash}
+use Rattle.config.specs.Level.{level}
+use Rattle.config.specs.declared.config.Config.{Config}
+use Rattle.config.specs.declared.level.Level.{Level}
+use Rattle.config.specs.declared.level.Level.the-variants.{L0, L1, L2}
 use Rattle.command.specs.Transfer.{padding}
 use Rattle.rules.specs.Session.{Session, session, Nothing, BlankReport}
 use Rattle.rules.specs.Result.{Board, Result, reply, next, pages, Outcome, Done, Stall}

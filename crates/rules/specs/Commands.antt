@@ -5,14 +5,14 @@ use mathlib.Core.Option.{Option, none, some}
 use Prim.Native.Nat.{ℕ}
 use lib.Dec.{eqb}
 use Rattle.words.specs.Words.{if_then_else_}
-use Rattle.board.specs.Memory.{flashAddress}
-use Rattle.board.specs.Pages.{Store, programStores, blockStores, chipStores}
-use Rattle.board.specs.Blank.{usedIn}
-use Rattle.board.specs.Config.{version, configByte, withByte, withHsb, erasedConfig}
-use Rattle.board.specs.Level.{level}
-use Rattle.board.specs.declared.address.Range.{Range}
-use Rattle.board.specs.declared.address.Range.the-variants.{Flash, Eeprom}
-use Rattle.board.specs.declared.config.Config.{Config}
+use Rattle.memory.specs.Memory.{flashAddress}
+use Rattle.memory.specs.Pages.{Store, programStores, blockStores, chipStores}
+use Rattle.blank.specs.Blank.{usedIn}
+use Rattle.config.specs.Config.{version, configByte, withByte, withHsb, erasedConfig}
+use Rattle.config.specs.Level.{level}
+use Rattle.memory.specs.declared.address.Range.{Range}
+use Rattle.memory.specs.declared.address.Range.the-variants.{Flash, Eeprom}
+use Rattle.config.specs.declared.config.Config.{Config}
 use Rattle.command.specs.Address.{badAddress}
 use Rattle.command.specs.Transfer.{bodyOf, badLength}
 use Rattle.command.specs.declared.command.Command.{Command}

@@ -7,18 +7,18 @@ use mathlib.Core.Option.{Option, none, some}
 use Prim.Native.Nat.{ℕ, _≤_, _<_}
 use lib.ListN.{length}
 use Rattle.words.specs.Words.{among, Programmed}
-use Rattle.board.specs.Memory.{blankFlash}
-use Rattle.board.specs.Pages.{pagesMet, blockStart, blockFF}
-use Rattle.board.specs.Config.{withByte, withHsb, erasedConfig}
-use Rattle.board.specs.Level.{level}
-use Rattle.board.specs.declared.address.Range.the-variants.{Flash, Eeprom}
-use Rattle.board.specs.declared.address.Block.the-variants.{Low, Middle, High}
-use Rattle.board.specs.declared.config.Config.{Config}
-use Rattle.board.specs.declared.level.Level.the-variants.{L0}
+use Rattle.memory.specs.Memory.{blankFlash}
+use Rattle.memory.specs.Pages.{pagesMet, blockStart, blockFF}
+use Rattle.config.specs.Config.{withByte, withHsb, erasedConfig}
+use Rattle.config.specs.Level.{level}
+use Rattle.memory.specs.declared.address.Range.the-variants.{Flash, Eeprom}
+use Rattle.memory.specs.declared.address.Block.the-variants.{Low, Middle, High}
+use Rattle.config.specs.declared.config.Config.{Config}
+use Rattle.config.specs.declared.level.Level.the-variants.{L0}
 use Rattle.command.specs.Transfer.{bodyOf}
 use Rattle.command.specs.Reader.{partsOf, readCommand}
 use Rattle.command.specs.declared.reader.Reading.the-variants.{Taken}
-use Rattle.command.specs.RoundTrip.{Bytes, ZeroFilled, WritesAs}
+use Rattle.writer.specs.RoundTrip.{Bytes, ZeroFilled, WritesAs}
 use Rattle.command.specs.declared.command.Command.{Command}
 use Rattle.command.specs.declared.command.Command.the-variants.{Program, Read, BlankCheck, EraseBlock, EraseChip, WriteByte, WriteHsb, StartReset}
 use Rattle.command.specs.declared.command.Command.the-variants.{StartAt, ReadVersion, ReadByte, ReadHsb}

@@ -9,9 +9,9 @@ use mathlib.Core.Option.{Option, none, some}
 use Prim.Native.Nat.{ℕ, _/_, _%_, _<_}
 use lib.ListN.{length, getD}
 use Rattle.words.specs.Words.{if_then_else_}
-use Rattle.board.specs.Memory.{flashSize}
-use Rattle.board.specs.Level.{level}
-use Rattle.board.specs.declared.level.Level.the-variants.{L2}
+use Rattle.memory.specs.Memory.{flashSize}
+use Rattle.config.specs.Level.{level}
+use Rattle.config.specs.declared.level.Level.the-variants.{L2}
 use Rattle.command.specs.declared.command.Command.{Command}
 use Rattle.command.specs.declared.command.Command.the-variants.{Program, Read, BlankCheck, EraseBlock, EraseChip, WriteByte, WriteHsb, StartReset}
 use Rattle.command.specs.declared.command.Command.the-variants.{StartAt, ReadVersion, ReadByte, ReadHsb}

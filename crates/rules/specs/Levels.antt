@@ -3,9 +3,9 @@ use mathlib.Core.List.{[], _∷_}
 use Prim.Native.Nat.{ℕ}
 use lib.Dec.{eqb}
 use Rattle.words.specs.Words.{if_then_else_, among}
-use Rattle.board.specs.Config.{ssbIndex}
-use Rattle.board.specs.declared.level.Level.{Level}
-use Rattle.board.specs.declared.level.Level.the-variants.{L0, L1, L2}
+use Rattle.config.specs.Config.{ssbIndex}
+use Rattle.config.specs.declared.level.Level.{Level}
+use Rattle.config.specs.declared.level.Level.the-variants.{L0, L1, L2}
 use Rattle.command.specs.declared.command.Command.{Command}
 use Rattle.command.specs.declared.command.Command.the-variants.{Program, Read, BlankCheck, EraseBlock, EraseChip, WriteByte, WriteHsb, StartReset}
 use Rattle.command.specs.declared.command.Command.the-variants.{StartAt, ReadVersion, ReadByte, ReadHsb}

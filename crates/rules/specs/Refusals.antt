@@ -5,7 +5,7 @@ use Prim.Native.Nat.{ℕ}
 use lib.Dec.{eqb, leb, ltb}
 use lib.ListN.{length}
 use Rattle.words.specs.Words.{if_then_else_, among, byteAt}
-use Rattle.board.specs.Memory.{flashSize, eepromSize}
+use Rattle.memory.specs.Memory.{flashSize, eepromSize}
 use Rattle.command.specs.Address.{badRange, pastFlash}
 use Rattle.rules.specs.Session.{Session, Pending, Nothing, MemoryRead, BlankReport, OneByte, Start}
 use Rattle.rules.specs.Result.{Board}

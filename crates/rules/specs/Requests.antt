@@ -5,12 +5,12 @@ use Prim.Native.Nat.{ℕ, _+_, _/_, _%_}
 use lib.Dec.{eqb, ltb}
 use lib.ListN.{take}
 use Rattle.words.specs.Words.{if_then_else_, among, highFirst, lowFirst, part}
-use Rattle.board.specs.Memory.{flashAddress, eepromAddress, rangeCount}
-use Rattle.board.specs.Level.{level}
-use Rattle.board.specs.declared.address.Range.{Range}
-use Rattle.board.specs.declared.address.Range.the-variants.{Flash, Eeprom}
-use Rattle.board.specs.declared.level.Level.{Level}
-use Rattle.board.specs.declared.level.Level.the-variants.{L0, L1, L2}
+use Rattle.memory.specs.Memory.{flashAddress, eepromAddress, rangeCount}
+use Rattle.config.specs.Level.{level}
+use Rattle.memory.specs.declared.address.Range.{Range}
+use Rattle.memory.specs.declared.address.Range.the-variants.{Flash, Eeprom}
+use Rattle.config.specs.declared.level.Level.{Level}
+use Rattle.config.specs.declared.level.Level.the-variants.{L0, L1, L2}
 use Rattle.command.specs.Form.{form}
 use Rattle.rules.specs.Session.{session, idle, Pending, Nothing, MemoryRead, BlankReport, OneByte, Start}
 use Rattle.rules.specs.Result.{Board, Result, reply, Outcome, Done, Started}

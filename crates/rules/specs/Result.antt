@@ -4,9 +4,9 @@ use mathlib.Core.Option.{Option, none}
 use Prim.Native.Nat.{ℕ, _+_}
 use lib.ListN.{length, drop}
 use Rattle.words.specs.Words.{overlay}
-use Rattle.board.specs.Pages.{Store, storeAll}
-use Rattle.board.specs.declared.address.EepromAddress.{EepromAddress}
-use Rattle.board.specs.declared.config.Config.{Config}
+use Rattle.memory.specs.Pages.{Store, storeAll}
+use Rattle.memory.specs.declared.address.EepromAddress.{EepromAddress}
+use Rattle.config.specs.declared.config.Config.{Config}
 use Rattle.command.specs.declared.command.Command.{Command}
 use Rattle.rules.specs.Session.{Session, startNumber}
 pub use Rattle.rules.specs.declared.answer.Outcome.{Outcome}

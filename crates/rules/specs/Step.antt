@@ -4,9 +4,9 @@ use Prim.Native.Nat.{ℕ}
 use lib.Dec.{eqb}
 use lib.ListN.{replicate}
 use Rattle.words.specs.Words.{if_then_else_}
-use Rattle.board.specs.Memory.{blankFlash, eepromSize}
-use Rattle.board.specs.Config.{deliveredConfig}
-use Rattle.board.specs.declared.config.Config.{Config}
+use Rattle.memory.specs.Memory.{blankFlash, eepromSize}
+use Rattle.config.specs.Config.{deliveredConfig}
+use Rattle.config.specs.declared.config.Config.{Config}
 use Rattle.rules.specs.Session.{Session, idle}
 use Rattle.rules.specs.Result.{Board, board, Result, reply, next, pages, Outcome, Done, Refused}
 use Rattle.rules.specs.Requests.{requestOf, respond}

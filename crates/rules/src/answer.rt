@@ -1,8 +1,8 @@
 // What a request answers.
 use crate::session::Session;
 use crate::session::StartKind;
-use board::Config;
-use board::FlashAddress;
+use config::Config;
+use memory::FlashAddress;
 
 pub enum Outcome {
     // Also where an error status is set.

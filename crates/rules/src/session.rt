@@ -1,6 +1,6 @@
 // The session record.
-use board::FlashAddress;
-use board::Range;
+use memory::FlashAddress;
+use memory::Range;
 
 pub enum StartKind {
     Reset,

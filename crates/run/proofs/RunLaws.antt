@@ -11,8 +11,8 @@ use lib.ListN.{length, take, drop, replicate, length-replicate, length-drop, len
 use lib.Seq.{length-take-le, take-take, take-add, take-append-seam, drop-drop, drop-at}
 use borrow.Author.Tests.{le-leb}
 use Rattle.words.specs.Words.{if_then_else_, laid}
-use Rattle.board.specs.Config.{deliveredConfig}
-use Rattle.board.specs.Memory.{eepromSize, blankFlash}
+use Rattle.config.specs.Config.{deliveredConfig}
+use Rattle.memory.specs.Memory.{eepromSize, blankFlash}
 use Rattle.job.specs.Field.{setupSize}
 use Rattle.job.specs.Verdict.{mostFile, verdict}
 use Rattle.job.specs.declared.verdict.Verdict.the-variants.{Accepted, Refused}
@@ -28,12 +28,12 @@ use Rattle.lines.specs.declared.line.Put.the-variants.{Upto, Unwritten}
 use Rattle.lines.specs.declared.line.Word.{Word}
 use Rattle.lines.proofs.LineLaws.{requestLine-le}
 use Rattle.lines.proofs.RoomLaws.{none-stands, joined, laid-stands, put-within}
-use Rattle.loader.specs.Session.{idle}
-use Rattle.loader.specs.Result.{Board, board, Result, next}
-use Rattle.loader.specs.declared.answer.Answer.{Answer}
-use Rattle.loader.specs.Answered.{Stepped}
-use Rattle.loader.specs.Refusals.{replySize}
-use Rattle.loader.specs.Step.{ask, deliveredBoard}
+use Rattle.rules.specs.Session.{idle}
+use Rattle.rules.specs.Result.{Board, board, Result, next}
+use Rattle.rules.specs.declared.answer.Answer.{Answer}
+use Rattle.rules.specs.Answered.{Stepped}
+use Rattle.rules.specs.Refusals.{replySize}
+use Rattle.rules.specs.Step.{ask, deliveredBoard}
 use Rattle.run.specs.Bench.{wordOf, resultLine, asked, lines, bench}
 use Rattle.run.specs.Run.{fewestBytes, mostOutput, answerPut, Placed, answerLine, boardAt, Ran, Ready}
 use Rattle.run.specs.declared.run.Progress.{Progress}

@@ -13,9 +13,9 @@ use Rattle.lines.specs.Line.{requestLine, mostLine, mostJobLine}
 use Rattle.lines.specs.Room.{put, Stands}
 use Rattle.lines.specs.declared.line.Put.{Put}
 use Rattle.lines.specs.declared.line.Put.the-variants.{Unwritten}
-use Rattle.loader.specs.Result.{Board, board, Result, next}
-use Rattle.loader.specs.declared.answer.Answer.{Answer}
-use Rattle.loader.specs.Refusals.{replySize}
+use Rattle.rules.specs.Result.{Board, board, Result, next}
+use Rattle.rules.specs.declared.answer.Answer.{Answer}
+use Rattle.rules.specs.Refusals.{replySize}
 use Rattle.run.specs.Bench.{wordOf, resultLine, bench}
 use Rattle.run.specs.declared.run.Progress.{Progress}
 

@@ -2,23 +2,23 @@
 ghost use mathlib.Core.Path.{_≡_};
 ghost use Prim.Native.Nat.{_≤_};
 ghost use lib.ListN.{length, replicate};
-ghost use Rattle.board.specs.Memory.{eepromSize, blankFlash};
+ghost use Rattle.memory.specs.Memory.{eepromSize, blankFlash};
 ghost use Rattle.job.specs.Verdict.{verdict};
 ghost use Rattle.job.specs.declared.verdict.Verdict.the-variants.{Accepted};
-ghost use Rattle.loader.specs.Refusals.{replySize};
+ghost use Rattle.rules.specs.Refusals.{replySize};
 ghost use Rattle.lines.specs.Room.{Stands};
 ghost use Rattle.run.specs.Bench.{writtenFor, bench};
 ghost use Rattle.run.specs.Run.{mostOutput, answerPut, answerRoom};
 use crate::run::end_of;
 use crate::run::run_all;
-use board::EEPROM_SIZE;
-use board::FLASH_SIZE;
 use job::Verdict;
 use job::check_job;
 use job::count_requests;
 use lines::Put;
 use lines::job_line;
 use lines::refused_line;
+use memory::EEPROM_SIZE;
+use memory::FLASH_SIZE;
 
 const REPLY_SIZE: usize = 1024;
 

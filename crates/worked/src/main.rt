@@ -1,9 +1,9 @@
 // The worked examples of document 01, run through the public functions. Each check is proved before it is run.
 ghost use mathlib.Core.Path.{_≡_};
-ghost use Rattle.board.specs.Memory.{flashAddress};
-use board::FlashAddress;
-use board::Range;
+ghost use Rattle.memory.specs.Memory.{flashAddress};
 use command::Command;
+use memory::FlashAddress;
+use memory::Range;
 
 // A range of flash.
 fn flash(start: u16, end: u16) -> Range
@@ -29,7 +29,7 @@ fn addresses() {
 
 // HSB 4Fh over BBh is 4Bh.
 fn security_bits() {
-    let config = board::write_hsb(board::delivered(), 0x4F);
+    let config = config::write_hsb(config::delivered(), 0x4F);
     check::expect(config.hsb == 0x4B);
 }
 

@@ -12,11 +12,11 @@ use lib.Seq.{take-at, drop-at, take-length, drop-length, drop-cons, length-take-
 use borrow.Author.Tests.{eqb-true, eq-eqb, le-leb, le-ltb, not-false}
 use Rattle.words.specs.Words.{if_then_else_, byteAt, highFirst, overlay}
 use Rattle.words.proofs.WordsLaws.{overlay-front}
-use Rattle.board.specs.Memory.{rangeStart, rangeCount}
-use Rattle.board.specs.Config.{readable, writable}
-use Rattle.board.specs.declared.address.Range.{Range}
-use Rattle.board.specs.declared.address.Range.the-variants.{Flash, Eeprom}
-use Rattle.board.specs.declared.address.Block.the-variants.{Low, Middle, High}
+use Rattle.memory.specs.Memory.{rangeStart, rangeCount}
+use Rattle.config.specs.Config.{readable, writable}
+use Rattle.memory.specs.declared.address.Range.{Range}
+use Rattle.memory.specs.declared.address.Range.the-variants.{Flash, Eeprom}
+use Rattle.memory.specs.declared.address.Block.the-variants.{Low, Middle, High}
 use Rattle.command.specs.declared.command.Command.{Command}
 use Rattle.command.specs.declared.command.Command.the-variants.{Program, Read, BlankCheck, EraseBlock, EraseChip, WriteByte, WriteHsb, StartReset, StartAt}
 use Rattle.command.specs.declared.command.Command.the-variants.{ReadVersion, ReadByte, ReadHsb}

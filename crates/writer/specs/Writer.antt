@@ -6,10 +6,10 @@ use Prim.Native.Nat.{ℕ, _+_, _-_, _/_, _%_, _≤_}
 use lib.Dec.{eqb, ltb}
 use lib.ListN.{length, take, replicate}
 use Rattle.words.specs.Words.{if_then_else_, overlay}
-use Rattle.board.specs.declared.address.Range.{Range}
-use Rattle.board.specs.declared.address.Range.the-variants.{Flash, Eeprom}
-use Rattle.board.specs.Memory.{rangeStart, rangeEnd, rangeCount}
-use Rattle.board.specs.Config.{readable, writable}
+use Rattle.memory.specs.declared.address.Range.{Range}
+use Rattle.memory.specs.declared.address.Range.the-variants.{Flash, Eeprom}
+use Rattle.memory.specs.Memory.{rangeStart, rangeEnd, rangeCount}
+use Rattle.config.specs.Config.{readable, writable}
 use Rattle.command.specs.declared.command.Command.{Command}
 use Rattle.command.specs.Form.{blockCode}
 use Rattle.command.specs.declared.command.Command.the-variants.{Program, Read, BlankCheck, EraseBlock, EraseChip, WriteByte, WriteHsb, StartReset, StartAt}

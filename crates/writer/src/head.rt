@@ -1,12 +1,12 @@
 // The bytes of a command before its filler: a row of the table.
 ghost use mathlib.Core.Path.{_≡_};
 ghost use Prim.Native.Nat.{_/_, _%_};
-ghost use Rattle.board.specs.Memory.{rangeStart, rangeEnd};
+ghost use Rattle.memory.specs.Memory.{rangeStart, rangeEnd};
 ghost use Rattle.command.specs.Form.{blockCode};
 ghost use Rattle.writer.specs.Writer.{headOf, headed, rangeHead, selector};
-use board::Block;
-use board::Range;
 use command::Command;
+use memory::Block;
+use memory::Range;
 
 // The first so many of six bytes.
 pub struct Head {

@@ -74,8 +74,8 @@ fn bad_write(command: Command, body: usize, suffix: usize) -> bool
             }
             suffix != SUFFIX_SIZE
         }
-        Command::WriteByte(index, _) => !board::is_writable(index),
-        Command::ReadByte(index) => !board::is_readable(index),
+        Command::WriteByte(index, _) => !config::is_writable(index),
+        Command::ReadByte(index) => !config::is_readable(index),
         _ => false,
     }
 }

@@ -4,12 +4,12 @@ use mathlib.Core.Path.{_≡_, sym, ap, _∙_}
 use mathlib.Core.List.{List}
 use Prim.Native.Nat.{ℕ}
 use lib.ListN.{length}
-use Rattle.board.specs.declared.config.Config.{Config}
-use Rattle.loader.specs.declared.session.Session.{Session}
-use Rattle.loader.specs.declared.answer.Answer.{Answer}
-use Rattle.loader.specs.Result.{Board, Result, board}
-use Rattle.loader.specs.Step.{ask}
-use Rattle.loader.specs.Answered.{Stepped}
+use Rattle.config.specs.declared.config.Config.{Config}
+use Rattle.rules.specs.declared.session.Session.{Session}
+use Rattle.rules.specs.declared.answer.Answer.{Answer}
+use Rattle.rules.specs.Result.{Board, Result, board}
+use Rattle.rules.specs.Step.{ask}
+use Rattle.rules.specs.Answered.{Stepped}
 use Rattle.numbers.specs.Layout.{sessionOf, configOf, packSession, packConfig, packOutcome, numberAfter}
 use Rattle.exports.specs.Exported.{StepTold, numbered}
 use borrow.Author.Needs.{needs}

@@ -1,7 +1,7 @@
 -- `worked::security_bits`: the check follows from what `write_hsb` and `delivered` ensure.
 -- Assumes nothing.
 use mathlib.Core.Path.{_∙_, ap}
-use Rattle.board.specs.Config.{withHsb}
+use Rattle.config.specs.Config.{withHsb}
 use borrow.Author.Tests.{eq-eqb}
 use borrow.Author.Needs.{needs}
 use Rattle.worked.proofs.security_bits.Statement.{statement}

@@ -3,8 +3,8 @@
 use mathlib.Core.Path.{_≡_, sym, _∙_}
 use Prim.Native.Nat.{ℕ, _+_}
 use native.Mathlib.Omega.{arith}
-use Rattle.board.specs.declared.address.Range.{Range}
-use Rattle.board.specs.Memory.{rangeCount}
+use Rattle.memory.specs.declared.address.Range.{Range}
+use Rattle.memory.specs.Memory.{rangeCount}
 use Rattle.command.specs.Transfer.{Transfer, Of, NoTransfer, bodyPlace}
 use Rattle.command.specs.Reader.{parts, transferParts}
 use borrow.Author.Needs.{needs}

@@ -5,8 +5,8 @@ use mathlib.Core.Bool.{not}
 use Prim.Native.Nat.{ℕ, _+_}
 use native.Mathlib.Omega.{arith}
 use lib.Dec.{eqb}
-use Rattle.board.specs.declared.address.Range.{Range}
-use Rattle.board.specs.Memory.{rangeCount}
+use Rattle.memory.specs.declared.address.Range.{Range}
+use Rattle.memory.specs.Memory.{rangeCount}
 use Rattle.command.specs.Transfer.{Transfer, Of, bodyPlace, transferLength, wrongTransfer}
 use borrow.Author.Needs.{needs}
 use Rattle.command.proofs.transfer.wrong_length.Statement.{statement}

@@ -4,11 +4,11 @@ use mathlib.Core.Path.{_≡_, sym, ap, _∙_}
 use mathlib.Core.Option.{Option, none, some}
 use Prim.Native.Nat.{ℕ}
 use native.Mathlib.Omega.{arith}
-use Rattle.board.specs.Blank.{usedIn, usedOf}
-use Rattle.board.specs.Memory.{flashAddress}
-use Rattle.board.specs.declared.address.FlashAddress.{FlashAddress}
-use Rattle.board.specs.declared.blank.Used.the-variants.{At, Nowhere}
-use Rattle.board.specs.declared.config.Config.{Config}
+use Rattle.blank.specs.Blank.{usedIn, usedOf}
+use Rattle.memory.specs.Memory.{flashAddress}
+use Rattle.memory.specs.declared.address.FlashAddress.{FlashAddress}
+use Rattle.blank.specs.declared.search.Used.the-variants.{At, Nowhere}
+use Rattle.config.specs.declared.config.Config.{Config}
 use Rattle.command.specs.declared.command.Command.the-variants.{BlankCheck}
 use Rattle.rules.specs.declared.session.Pending.the-variants.{Nothing, BlankReport}
 use Rattle.rules.specs.Result.{answer}

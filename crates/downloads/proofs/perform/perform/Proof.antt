@@ -5,14 +5,14 @@ use mathlib.Core.List.{List}
 use mathlib.Core.Option.{some}
 use Prim.Native.Nat.{ℕ}
 use lib.ListN.{length}
-use Rattle.board.specs.Memory.{flashSize}
-use Rattle.board.specs.Pages.{storeAll}
-use Rattle.board.specs.Blank.{usedIn}
-use Rattle.board.specs.Config.{erasedConfig}
-use Rattle.board.specs.declared.address.FlashAddress.{FlashAddress}
-use Rattle.board.specs.Erase.{blockErase, chipErase}
-use Rattle.board.specs.declared.address.Block.{Block}
-use Rattle.board.specs.declared.config.Config.{Config}
+use Rattle.memory.specs.Memory.{flashSize}
+use Rattle.memory.specs.Pages.{storeAll}
+use Rattle.blank.specs.Blank.{usedIn}
+use Rattle.config.specs.Config.{erasedConfig}
+use Rattle.memory.specs.declared.address.FlashAddress.{FlashAddress}
+use Rattle.memory.specs.Erase.{blockErase, chipErase}
+use Rattle.memory.specs.declared.address.Block.{Block}
+use Rattle.config.specs.declared.config.Config.{Config}
 use Rattle.command.specs.declared.command.Command.the-variants.{BlankCheck, EraseBlock, EraseChip}
 use Rattle.command.proofs.FormLaws.{form-readable}
 use Rattle.rules.specs.Session.{idle}

@@ -48,12 +48,12 @@ use Rattle.rules.specs.Result.{board}
 use Rattle.rules.specs.Step.{ask}
 use Rattle.rules.specs.Answered.{Stepped}
 use Rattle.rules.specs.declared.session.Session.{Session}
-use Rattle.board.specs.declared.config.Config.{Config}
+use Rattle.config.specs.declared.config.Config.{Config}
 use Rattle.rules.specs.declared.answer.Answer.{Answer}
 use Rattle.rules.proofs.session.Session as S
 use Rattle.rules.proofs.session.Session.Laws as S′
-use Rattle.board.proofs.config.Config as K
-use Rattle.board.proofs.config.Config.Laws as K′
+use Rattle.config.proofs.config.Config as K
+use Rattle.config.proofs.config.Config.Laws as K′
 use Rattle.rules.proofs.answer.Answer as N
 use Rattle.rules.proofs.answer.Answer.Laws as N′
 use Rattle.loader.proofs.step as step

@@ -6,7 +6,7 @@ use Prim.Native.Nat.{ℕ, _≤_}
 use native.Mathlib.Omega.{arith}
 use lib.ListN.{length}
 use Rattle.words.specs.Words.{laid}
-use Rattle.board.specs.declared.config.Config.{Config}
+use Rattle.config.specs.declared.config.Config.{Config}
 use Rattle.rules.specs.Session.{session}
 use Rattle.rules.specs.declared.session.Session.{Session}
 use Rattle.rules.specs.declared.answer.Outcome.the-variants.{Done}

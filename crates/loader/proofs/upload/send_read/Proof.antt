@@ -2,7 +2,7 @@
 -- Assumes nothing.
 use mathlib.Core.Path.{ap, _∙_}
 use native.Mathlib.Omega.{arith}
-use Rattle.board.specs.Read.{readCount, readBuffer}
+use Rattle.memory.specs.Read.{readCount, readBuffer}
 use Rattle.rules.specs.declared.session.Pending.the-variants.{MemoryRead}
 use Rattle.rules.specs.Answered.{sentAnswer}
 use Rattle.rules.proofs.UploadLaws.{splits, reads-first, reads-all}

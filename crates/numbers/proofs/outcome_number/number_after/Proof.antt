@@ -5,8 +5,8 @@ use mathlib.Core.List.{List, [], _∷_}
 use Prim.Native.Nat.{ℕ}
 use types.Run.{OneOf, miss}
 use denote.Enum.Declared.{tagOf}
-use Rattle.loader.specs.declared.answer.Outcome.{Outcome}
-use Rattle.loader.specs.declared.answer.Outcome.the-variants.{Done, Stall, Started, Refused}
+use Rattle.rules.specs.declared.answer.Outcome.{Outcome}
+use Rattle.rules.specs.declared.answer.Outcome.the-variants.{Done, Stall, Started, Refused}
 use Rattle.loader.proofs.answer.Outcome.{the-type}
 use Rattle.numbers.specs.Layout.{numberAfter}
 use borrow.Author.Needs.{needs}

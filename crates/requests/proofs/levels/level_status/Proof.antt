@@ -3,8 +3,8 @@
 use borrow.Author.Tests.{ne-eqb}
 use mathlib.Core.Path.{_≡_}
 use Prim.Native.Nat.{ℕ}
-use Rattle.board.specs.Config.{ssbIndex}
-use Rattle.board.specs.declared.level.Level.{Level}
+use Rattle.config.specs.Config.{ssbIndex}
+use Rattle.config.specs.declared.level.Level.{Level}
 use Rattle.command.specs.declared.command.Command.{Command}
 use Rattle.command.specs.declared.command.Command.the-variants.{WriteByte}
 use Rattle.rules.specs.Levels.{SsbRow, cell, levelStatus}

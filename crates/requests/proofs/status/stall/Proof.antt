@@ -3,7 +3,7 @@
 use borrow.Author.Tests.{eq-eqb, ne-eqb}
 use mathlib.Core.Path.{_≡_, _∙_}
 use mathlib.Core.List.{[]}
-use Rattle.board.specs.declared.config.Config.{Config}
+use Rattle.config.specs.declared.config.Config.{Config}
 use Rattle.rules.specs.Session.{session}
 use Rattle.rules.specs.declared.session.Session.{Session}
 use Rattle.rules.specs.declared.session.Pending.the-variants.{Nothing}

@@ -3,8 +3,8 @@
 use mathlib.Core.Path.{_≡_, sym, _∙_}
 use Prim.Native.Nat.{ℕ, _+_, _-_}
 use native.Mathlib.Omega.{arith}
-use Rattle.board.specs.declared.address.Range.{Range}
-use Rattle.board.specs.Memory.{rangeStart}
+use Rattle.memory.specs.declared.address.Range.{Range}
+use Rattle.memory.specs.Memory.{rangeStart}
 use Rattle.command.specs.declared.transfer.Transfer.{Transfer}
 use Rattle.command.specs.declared.transfer.Transfer.the-variants.{Of, NoTransfer}
 use Rattle.command.specs.Transfer.{bodyPlace, fillerSize, padding}

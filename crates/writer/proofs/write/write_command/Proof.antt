@@ -6,7 +6,7 @@ use mathlib.Core.List.{List}
 use Prim.Native.Nat.{ℕ, zero-le}
 use native.Mathlib.Omega.{arith}
 use lib.ListN.{length}
-use Rattle.board.specs.Memory.{rangeCount}
+use Rattle.memory.specs.Memory.{rangeCount}
 use Rattle.command.proofs.AddressLaws.{badRange-good}
 use Rattle.command.specs.declared.command.Command.{Command}
 use Rattle.command.specs.declared.command.Command.the-variants.{Program, Read, BlankCheck, EraseBlock, EraseChip, WriteByte, WriteHsb, StartReset, StartAt}
