@@ -4,7 +4,7 @@ import difflib
 import itertools
 import re
 
-from commands import command
+from commands import command, counted
 
 FIXED = {"GETSTATUS": "A103000000000600", "GETSTATE": "A105000000000100", "CLRSTATUS": "2104000000000000", "ABORT": "2106000000000000"}
 COUNTED = {"DNLOAD": "210100000000", "UPLOAD": "A10200000000"}  # wLength follows
@@ -128,23 +128,24 @@ def byte_pairs(line, token):
     pairs = re.sub("(?<=[0-9a-fA-F])[hH]$", "", pairs)
     check(not pairs.strip(DIGITS), line, f"{token!r} is no word of a job{no_word(token)}")
     check(pairs, line, f"{token!r}: write the byte behind the star, as in 26*00")
-    check(len(pairs) % 2 == 0, line, f"{token!r} has {len(pairs)} hex digits, and a byte has two: write {'0' + pairs}")
+    check(len(pairs) % 2 == 0, line, f"{token!r} has {counted(len(pairs), 'hex digit')}, and a byte has two: write 0{pairs}")
     return bytes.fromhex(pairs) * (times(line, token, count, pairs) if star else 1)
 
 
 def times(line, token, count, pairs):
-    turned = f"did you mean {int(pairs)}*{count}?" if re.fullmatch("[0-9]+", pairs) and int(pairs) and re.fullmatch("[0-9a-fA-F]{2}", count) else ""
+    """How many times the bytes stand there. Who turned count and byte round is told so."""
+    turned = re.fullmatch("[0-9a-fA-F]{2}", count) and re.fullmatch("[0-9]+", pairs) and int(pairs)
+    instead = f"did you mean {int(pairs)}*{count}?" if turned else "write 26*00 for 26 zeros"
     right = re.fullmatch("[0-9]{1,5}", count) and int(count) <= MOST
-    check(right, line, f"{token!r}: before the star stands how many times, a decimal number up to {MOST}; {turned or 'write 26*00 for 26 zeros'}")
-    check(int(count), line, f"{token!r} puts no byte at all: the count stands before the star; {turned or 'leave it out'}")
+    check(right, line, f"{token!r}: before the star stands how many times, a decimal number up to {MOST}; {instead}")
+    check(int(count), line, f"{token!r} puts no byte at all: the count stands before the star; {instead if turned else 'leave it out'}")
     return int(count)
 
 
 def upload_size(line, token, due):
     """How many bytes an UPLOAD asks for. `all` is what the command before it has to fetch."""
     if token.lower() == "all":
-        check(due, line, "UPLOAD all needs a command before it that reads: write the number of bytes, as in UPLOAD 64")
-        check(0 < due <= MOST, line, "UPLOAD all: the read before it is backward or too long; write the number of bytes")
+        check(0 < due <= MOST, line, "UPLOAD all needs a read before it: write the number of bytes, as in UPLOAD 64")
         return due
     as_hex = re.fullmatch("(0x)?([0-9a-f]{1,4})h?", token, re.IGNORECASE)
     right = re.fullmatch("[0-9]{1,5}", token) and int(token) <= MOST
@@ -173,7 +174,8 @@ class Fetching:
 
     def end(self):
         if 0 < self.asked < self.due:
-            self.warnings.append(f"line {self.line}: the read before this UPLOAD has {self.due} bytes, and only {self.asked} are asked for: write UPLOAD all")
+            told = f"the read before this UPLOAD has {self.due} bytes, and only {self.asked} are asked for: write UPLOAD all"
+            self.warnings.append(f"line {self.line}: {told}")
         self.asked = 0
 
 
