@@ -9,7 +9,7 @@ from commands import command, counted
 FIXED = {"GETSTATUS": "A103000000000600", "GETSTATE": "A105000000000100", "CLRSTATUS": "2104000000000000", "ABORT": "2106000000000000"}
 COUNTED = {"DNLOAD": "210100000000", "UPLOAD": "A10200000000"}  # wLength follows
 SETUP = {word: bytes.fromhex(setup) for word, setup in {**FIXED, **COUNTED, "REQUEST": ""}.items()}
-TAKES_BYTES, WORDS = {"DNLOAD", "REQUEST", "RAW"}, [*SETUP, "RAW", "GROUP", "END", "NOTE"]
+TAKES_BYTES, WORDS = {"DNLOAD", "REQUEST", "RAW"}, ["DNLOAD", "UPLOAD", *FIXED, "REQUEST", "GROUP", "END", "NOTE", "RAW"]
 TAGS = REQUEST, GROUP, NOTE = 1, 2, 3
 SETUP_SIZE = 8
 MOST = 65535  # what two bytes hold
@@ -113,13 +113,19 @@ def items(text):
 def no_word(token):
     """What to write instead of a token that is neither a word nor bytes."""
     bare = re.sub("[^A-Z]", "", token.upper())
-    near = difflib.get_close_matches(bare, WORDS, 1)
-    if near or any(bare and bare in word for word in WORDS if len(bare) > 3):
-        return f": did you mean {near[0] if near else next(word for word in WORDS if bare in word)}?"
+    near = difflib.get_close_matches(bare, WORDS, 1) or [word for word in WORDS if bare in word and len(bare) > 2]
+    if token.startswith((";", "//")):
+        return ": a comment begins with #"
+    if token.startswith(":"):
+        return ": this looks like an Intel HEX file; a job has the bytes behind DNLOAD"
+    if near:
+        return f": did you mean {near[0]}?"
+    if turned := re.fullmatch("([1-9][0-9]*)[xX]([0-9a-fA-F]{2})", token):
+        return f": write {turned[1]}*{turned[2]}"
     parts = [part.removeprefix("0x").removeprefix("0X").rstrip("hH") for part in re.split("[^0-9A-Za-z]+", token) if part]
     if parts and all(part and not part.strip(DIGITS) and len(part) % 2 == 0 for part in parts):
         return f": write {' '.join(parts)}"
-    return f", and {token.rpartition('*')[2].strip(DIGITS)[:1]!r} is no hex digit"
+    return f": write {', '.join(WORDS)}, or pairs of hex digits"
 
 
 def byte_pairs(line, token):
@@ -127,7 +133,7 @@ def byte_pairs(line, token):
     count, star, pairs = token.rpartition("*")
     pairs = re.sub("(?<=[0-9a-fA-F])[hH]$", "", pairs)
     check(not pairs.strip(DIGITS), line, f"{token!r} is no word of a job{no_word(token)}")
-    check(pairs, line, f"{token!r}: write the byte behind the star, as in 26*00")
+    check(pairs, line, f"{token!r}: write count and byte at the star without spaces, as in 26*00")
     check(len(pairs) % 2 == 0, line, f"{token!r} has {counted(len(pairs), 'hex digit')}, and a byte has two: write 0{pairs}")
     return bytes.fromhex(pairs) * (times(line, token, count, pairs) if star else 1)
 
@@ -147,9 +153,12 @@ def upload_size(line, token, due):
     if token.lower() == "all":
         check(0 < due <= MOST, line, "UPLOAD all needs a read before it: write the number of bytes, as in UPLOAD 64")
         return due
-    as_hex = re.fullmatch("(0x)?([0-9a-f]{1,4})h?", token, re.IGNORECASE)
     right = re.fullmatch("[0-9]{1,5}", token) and int(token) <= MOST
-    instead = f"{token} in hex is {int(as_hex[2], 16)}: write UPLOAD {int(as_hex[2], 16)}" if as_hex and not right else "write UPLOAD 64, or UPLOAD all"
+    instead = "write UPLOAD 64, or UPLOAD all"
+    if as_hex := re.fullmatch("(0x)?([0-9a-f]{1,4})h?", token, re.IGNORECASE):
+        instead = f"{token} in hex is {int(as_hex[2], 16)}: write UPLOAD {int(as_hex[2], 16)}"
+    elif re.fullmatch("[0-9]{1,2},[0-9]{3}", token):
+        instead = f"write UPLOAD {token.replace(',', '')}"
     check(right, line, f"UPLOAD needs a decimal number up to {MOST}, or all; {instead}")
     return int(token)
 
