@@ -110,10 +110,10 @@ def download_stall(request):
         return f"state {request.before} takes no command; {FIRST[request.before]}"
     if asked.kind != "program":
         return "these bytes are no command; compare code and length with the table of commands"
-    return (
-        f"a transfer from {asked.start:04X}h on has {asked.pad} pad bytes, {COMMAND_SIZE} + {asked.pad} + {asked.count:,} + {SUFFIX_SIZE} = "
-        f"{asked.transfer:,} bytes in all, and this has {len(request.data):,}"
-    )
+    has = len(request.data)
+    taught = ", padded by start mod 128" if has - asked.transfer + asked.pad == asked.start % 128 else ""
+    parts = f"{COMMAND_SIZE} + {asked.pad} + {asked.count:,} + {SUFFIX_SIZE} = {asked.transfer:,}"
+    return f"a transfer from {asked.start:04X}h on has {asked.pad} pad bytes, {parts} bytes in all, and this has {has:,}{taught}"
 
 
 def upload_stall(request):
