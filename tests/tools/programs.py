@@ -1,6 +1,7 @@
 """The two programs that turn a job into lines, and jobs with the lines that they must print.
 
-A page of jobs is a Markdown file where each block marked `job`, a readable job, is followed by a block marked `lines`."""
+A page of jobs is a Markdown file where each block marked `job`, a readable job, is followed by a block marked `lines`, and that
+may be followed by a block marked `explained`."""
 import itertools
 import pathlib
 import re
@@ -39,18 +40,26 @@ def page_jobs(page):
     text = page.read_text()
     fences = list(FENCE.finditer(text))
     kinds = "".join(f"{fence[1]} " for fence in fences)
-    if not re.fullmatch("((sh|job lines) )*job lines ((sh|job lines) )*", kinds):
-        sys.exit(f"{page}: each job is followed by its lines, and there is no other block but sh; here stand {kinds}")
+    if "job lines " not in kinds or not re.fullmatch("((sh|job lines( explained)?) )*", kinds):
+        sys.exit(f"{page}: each job is followed by its lines, and there is no other block but sh and explained; here stand {kinds}")
     for job, lines in zip(fences, fences[1:]):
         if job[1] == "job":
             yield re.findall(r"^#+ (.*)", text[: job.start()], re.MULTILINE)[-1], job[2], lines[2]
 
 
+def page_explained(page):
+    """Each job of a page that is explained there: its text and what is to be printed."""
+    fences = list(FENCE.finditer(page.read_text()))
+    yield from ((job[2], told[2]) for job, told in zip(fences, fences[2:]) if told[1] == "explained")
+
+
 def differences(commands, raw, lines):
-    """A sentence for each program that does not print exactly these lines, with status 0 and nothing on standard error."""
+    """A sentence for each program that does not print exactly these lines, with nothing on standard error and status 0; ./bench has
+    status 1 where it refuses the file."""
     for name, command in commands.items():
+        status = int(lines.startswith("refused") and command[0] == ROOT / "bench")
         ended = run(command, raw)
-        if (ended.stdout, ended.stderr, ended.returncode) != (lines.encode(), b"", 0):
+        if (ended.stdout, ended.stderr, ended.returncode) != (lines.encode(), b"", status):
             pairs = itertools.zip_longest(ended.stdout.decode(errors="replace").splitlines(), lines.splitlines())
             at, told = next(((n, str(line)[:200]) for n, (line, right) in enumerate(pairs, 1) if line != right), (0, "as it should be"))
             yield f"{name}: line {at} is {told!r}, status {ended.returncode}, said {ended.stderr.decode(errors='replace')!r}"
