@@ -1,4 +1,5 @@
-"""The definitions of the crates' specs, looked up by name and worked out on plain values: enough of antt for what a table on a page says.
+"""The definitions of the crates' specs, looked up by name and worked out on plain values: enough of antt for what a table of a page
+says.
 
 A number is a number, a list a Python list, a record a dictionary, and a case a tuple of its name and what it carries. Arguments are
 worked out first, the branches of an `if` and what a `let` names only where they are needed."""
@@ -96,8 +97,33 @@ class Reader:
         return ("record", fields)
 
 
+PLAIN = {"[]": [], "zero": 0, "true": True, "false": False}
+BUILT_IN = {
+    "eqb": (2, lambda a, b: a == b),
+    "leb": (2, lambda a, b: a <= b),
+    "ltb": (2, lambda a, b: a < b),
+    "not": (1, lambda a: not a),
+    "suc": (1, lambda a: a + 1),
+    "max": (2, max),
+    "length": (1, len),
+    "take": (2, lambda n, m: m[:n]),
+    "drop": (2, lambda n, m: m[n:]),
+    "getD": (3, lambda m, n, other: m[n] if n < len(m) else other),
+    "replicate": (2, lambda n, x: [x] * n),
+}
+SIGNS = {
+    "+": lambda a, b: a + b,
+    "-": lambda a, b: max(a - b, 0),
+    "*": lambda a, b: a * b,
+    "/": lambda a, b: a // b,
+    "%": lambda a, b: a % b,
+    "++": lambda a, b: a + b,
+    "∷": lambda a, b: [a, *b],
+}
+
+
 def is_case(name):
-    return name[0].isupper() or name in ("none", "some", "true", "false", "zero", "suc", "[]")
+    return name[0].isupper() or name in PLAIN or name in ("none", "some", "suc")
 
 
 def matches(pattern, value):
@@ -106,41 +132,25 @@ def matches(pattern, value):
     if kind == "number":
         return {} if value == pattern[1] else None
     if kind == "infix":
-        fits = isinstance(value, list) and value
-        return both(pattern[2:], (value[0], value[1:])) if fits else None
+        return both(pattern[2:], (value[0], value[1:])) if value else None
     if kind == "name" and not is_case(pattern[1]):
         return {} if pattern[1] == "_" else {pattern[1]: value}
     name, inner = pattern[1:] if kind == "apply" else (pattern, [])
     if name[1] == "suc":
         return matches(inner[0], value - 1) if value > 0 else None
-    plain = {"[]": [], "zero": 0, "true": True, "false": False}
-    if name[1] in plain:
-        return {} if value == plain[name[1]] else None
-    return both(inner, value[1:]) if isinstance(value, tuple) and value[0] == name[1] else None
+    if name[1] in PLAIN:
+        return {} if value == PLAIN[name[1]] else None
+    return both(inner, value[1:]) if value[0] == name[1] else None
 
 
 def both(patterns, values):
     bound = {}
-    for pattern, value in zip(patterns, values):
+    for pattern, value in zip(patterns, values, strict=True):
         found = matches(pattern, value)
         if found is None:
             return None
         bound |= found
     return bound
-
-
-def get(values, at, other):
-    return values[at] if at < len(values) else other
-
-
-BUILT_IN = {
-    "eqb": (2, lambda a, b: a == b), "leb": (2, lambda a, b: a <= b), "ltb": (2, lambda a, b: a < b), "not": (1, lambda a: not a),
-    "suc": (1, lambda a: a + 1), "length": (1, len), "take": (2, lambda n, m: m[:n]), "drop": (2, lambda n, m: m[n:]),
-    "getD": (3, get), "replicate": (2, lambda n, x: [x] * n), "map": (2, lambda f, m: [f(x) for x in m]), "max": (2, max), "min": (2, min),
-}
-PLAIN = {"[]": [], "zero": 0, "true": True, "false": False}
-SIGNS = {"+": lambda a, b: a + b, "-": lambda a, b: max(a - b, 0), "*": lambda a, b: a * b, "/": lambda a, b: a // b,
-         "%": lambda a, b: a % b, "++": lambda a, b: a + b, "∷": lambda a, b: [a, *b]}
 
 
 class Definitions:
@@ -211,14 +221,16 @@ class Definitions:
 
     def named(self, name, bound, place):
         if name in bound:
-            return bound[name]() if callable(bound[name]) and getattr(bound[name], "waits", False) else bound[name]
+            return bound[name].value if isinstance(bound[name], Later) else bound[name]
+        if name in self.files:
+            return self.call(self.place(name, place), name, [])
         if name in PLAIN:
             return PLAIN[name]
         if name in BUILT_IN:
             return curried(*BUILT_IN[name])
         if is_case(name):
             return Case((name,))
-        return self.call(self.place(name, place), name, [])
+        raise LookupError(f"there is no definition {name}")
 
     def work_out(self, expression, bound, place):
         kind, *parts = expression
@@ -233,7 +245,7 @@ class Definitions:
         if kind == "if":
             return self.work_out(parts[1] if self.work_out(parts[0], bound, place) else parts[2], bound, place)
         if kind == "let":
-            return self.work_out(parts[2], {**bound, parts[0]: later(lambda: self.work_out(parts[1], bound, place))}, place)
+            return self.work_out(parts[2], {**bound, parts[0]: Later(lambda: self.work_out(parts[1], bound, place))}, place)
         if kind == "apply":
             handed = [self.work_out(part, bound, place) for part in parts[1]]
             name = parts[0][1] if parts[0][0] == "name" else None
@@ -259,13 +271,12 @@ def curried(count, function, *given):
     return function(*given) if len(given) == count else lambda more: curried(count, function, *given, more)
 
 
-def later(work):
+class Later:
     """What a `let` names: worked out at its first use."""
-    found = []
 
-    def ask():
-        if not found:
-            found.append(work())
-        return found[0]
-    ask.waits = True
-    return ask
+    def __init__(self, work):
+        self.work = work
+
+    @functools.cached_property
+    def value(self):
+        return self.work()
