@@ -13,6 +13,7 @@ use Rattle.command.specs.declared.command.Command.{Command}
 use Rattle.command.specs.declared.command.Command.the-variants.{Program, Read, BlankCheck, EraseBlock, EraseChip, WriteByte, WriteHsb, StartReset, StartAt}
 use Rattle.command.specs.declared.command.Command.the-variants.{ReadVersion, ReadByte, ReadHsb}
 use Rattle.rules.specs.Session.{session}
+use Rattle.rules.specs.Result.{outcomeNumber, outcomeValue}
 use Rattle.rules.specs.declared.session.Session.{Session}
 use Rattle.rules.specs.declared.session.Pending.{Pending}
 use Rattle.rules.specs.declared.session.Pending.the-variants.{Nothing, MemoryRead, BlankReport, OneByte, Start}
@@ -102,15 +103,8 @@ configOf n = record {
 
 -- ---- an outcome: 0 done, 1 stall, 2 a start by reset and 3 at an address with its address, 4 refused with its number
 
-abbrev pub packStarted : StartKind → FlashAddress → ℕ
-packStarted Reset a = packed 2 (a .0) 0 0
-packStarted AtAddress a = packed 3 (a .0) 0 0
-
 abbrev pub packOutcome : Outcome → ℕ
-packOutcome Done = packed 0 0 0 0
-packOutcome Stall = packed 1 0 0 0
-packOutcome (Started k a) = packStarted k a
-packOutcome (Refused n) = packed 4 n 0 0
+packOutcome o = packed (outcomeNumber o) (outcomeValue o) 0 0
 
 -- "session .. configuration .. stay": the number of a session or a configuration after an outcome. Refused, it stays as it was lent, also
 -- in bits that stand for nothing

@@ -1,13 +1,13 @@
 // An outcome as a number.
 ghost use mathlib.Core.Path.{_≡_};
-ghost use Rattle.numbers.specs.Layout.{packStarted, packOutcome, numberAfter};
+ghost use Rattle.numbers.specs.Layout.{packOutcome, numberAfter};
 use crate::packing::pack_words;
 use memory::FlashAddress;
 use rules::Outcome;
 use rules::StartKind;
 
 fn pack_started(kind: StartKind, address: FlashAddress) -> u64
-    ensures { λ r. ⌜ r ≡ packStarted kind address ⌝ }
+    ensures { λ r. ⌜ r ≡ packOutcome (Outcome.Started kind address) ⌝ }
 {
     match kind {
         StartKind::Reset => pack_words(2, address.0, 0, 0),

@@ -7,7 +7,7 @@ use types.Run.{OneOf, miss}
 use denote.Enum.Declared.{tagOf}
 use Rattle.rules.specs.declared.answer.Outcome.{Outcome}
 use Rattle.rules.specs.declared.answer.Outcome.the-variants.{Done, Stall, Started, Refused}
-use Rattle.loader.proofs.answer.Outcome.{the-type}
+use Rattle.rules.proofs.answer.Outcome.{the-type}
 use Rattle.numbers.specs.Layout.{numberAfter}
 use borrow.Author.Needs.{needs}
 use Rattle.numbers.proofs.outcome_number.number_after.Statement.{statement}
