@@ -7,6 +7,7 @@ ghost use Rattle.rules.specs.Requests.{endPlain, endDownload, dnload as dnloadO
 ghost use Rattle.downloads.specs.Download.{downloaded};
 ghost use Rattle.rules.specs.Answered.{bare, Answered, Sizes, Formed};
 use crate::perform::perform;
+use command::BAD_ADDRESS_STATUS;
 use command::Command;
 use command::Form;
 use config::Config;
@@ -43,7 +44,13 @@ fn obey(
         return quiet(config, Outcome::Done, 10, status, Pending::Nothing);
     }
     if wrong {
-        return quiet(config, Outcome::Done, 10, 0x08, Pending::Nothing);
+        return quiet(
+            config,
+            Outcome::Done,
+            10,
+            BAD_ADDRESS_STATUS,
+            Pending::Nothing,
+        );
     }
     if command::wrong_length(command, sent.len()) {
         return stall(session, config);

@@ -6,6 +6,7 @@ ghost use Rattle.rules.specs.Result.{reply as replyOf, answer};
 ghost use Rattle.rules.specs.Commands.{stall as stallOf};
 ghost use Rattle.rules.specs.Requests.{clrStatus, abort as abortOf};
 ghost use Rattle.rules.specs.Answered.{bare};
+use command::STALL_STATUS;
 use config::Config;
 use rules::Answer;
 use rules::Outcome;
@@ -36,7 +37,7 @@ pub fn stall(session: Session, config: Config) -> Answer
     if session.state == 10 {
         return quiet(config, Outcome::Stall, 10, session.status, Pending::Nothing);
     }
-    quiet(config, Outcome::Stall, 10, 0x0F, Pending::Nothing)
+    quiet(config, Outcome::Stall, 10, STALL_STATUS, Pending::Nothing)
 }
 
 fn cleared(config: Config) -> Answer

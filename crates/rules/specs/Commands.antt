@@ -13,7 +13,8 @@ use Rattle.config.specs.Level.{level}
 use Rattle.memory.specs.declared.address.Range.{Range}
 use Rattle.memory.specs.declared.address.Range.the-variants.{Flash, Eeprom}
 use Rattle.config.specs.declared.config.Config.{Config}
-use Rattle.command.specs.Address.{badAddress}
+use Rattle.command.specs.Address.{badAddress, badAddressStatus}
+use Rattle.command.specs.Reader.{stallStatus}
 use Rattle.command.specs.Transfer.{bodyOf, badLength}
 use Rattle.command.specs.declared.command.Command.{Command}
 use Rattle.command.specs.declared.command.Command.the-variants.{Program, Read, BlankCheck, EraseBlock, EraseChip, WriteByte, WriteHsb, StartReset}
@@ -25,7 +26,7 @@ use Rattle.rules.specs.Result.{Board, Patch, Result, reply, Done, Stall}
 -- "Stall: state 10, status 0Fh, nothing pending. In state 10 the status there already stays. Nothing is sent; memory and
 -- configuration stay."
 unfoldable pub stall : Board → Result
-stall b = reply (b .config) Stall [] (session 10 (if eqb (b .session .state) 10 then b .session .status else 0x0F) Nothing)
+stall b = reply (b .config) Stall [] (session 10 (if eqb (b .session .state) 10 then b .session .status else stallStatus) Nothing)
 
 -- "A status above is set with state 10 and nothing pending, and nothing else moves."
 abbrev pub setStatus : Board → ℕ → Result
@@ -102,7 +103,7 @@ forbidden b k = not (eqb (levelStatus k (level (b .config))) 0x00)
 unfoldable pub obey : Board → Command → List ℕ → Result
 obey b k d =
     if forbidden b k then setStatus b (levelStatus k (level (b .config))) else
-    if badAddress k then setStatus b 0x08 else
+    if badAddress k then setStatus b badAddressStatus else
     if badLength k d then stall b else
     accept k (perform b k d)
 
