@@ -8,6 +8,9 @@ use memory::EepromAddress;
 use memory::FlashAddress;
 use memory::Range;
 
+// No row of the table is shorter.
+const SHORTEST: usize = 3;
+
 // A command, or data that the table has not.
 pub enum Form {
     Is(Command),
@@ -125,6 +128,9 @@ fn index_form(sent: &[u8]) -> Form
 pub fn form_of(sent: &[u8]) -> Form
     ensures { λ r. ⌜ r ≡ formOf (form (now (sent .entry))) ⌝ }
 {
+    if sent.len() < SHORTEST {
+        return Form::Unlisted;
+    }
     let code = words::high_at(sent, 0);
     match code {
         0x0100 => six_or_more(sent, Command::Program(flash_range(sent))),

@@ -1,12 +1,12 @@
 -- The statements of specs/RoundTrip.antt hold.
 -- Assumes nothing.
 use mathlib.Core.Path.{_≡_, refl, sym, ap, _∙_, subst}
-use mathlib.Core.Bool.{Bool, true, false, not, _||_}
+use mathlib.Core.Bool.{Bool, true, false}
 use mathlib.Core.List.{List, [], _∷_, _++_, append-assoc, append-nil}
 use mathlib.Core.Option.{some}
 use Prim.Native.Nat.{ℕ, zero, suc, _+_, _-_, _*_, _/_, _%_, _≤_, _<_}
 use native.Mathlib.Omega.{arith}
-use lib.Dec.{T, eqb, ltb, ltb→lt}
+use lib.Dec.{T, ltb, ltb→lt}
 use lib.ListN.{length, take, drop, length-append, length-replicate, length-drop, take-append-drop}
 use lib.Seq.{take-at, drop-at, take-length, drop-length, drop-cons, length-take-le, take-add}
 use borrow.Author.Tests.{eqb-true, eq-eqb, le-leb, le-ltb, not-false}

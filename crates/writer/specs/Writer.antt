@@ -11,9 +11,9 @@ use Rattle.memory.specs.declared.address.Range.the-variants.{Flash, Eeprom}
 use Rattle.memory.specs.Memory.{rangeStart, rangeEnd, rangeCount}
 use Rattle.config.specs.Config.{readable, writable}
 use Rattle.command.specs.declared.command.Command.{Command}
-use Rattle.command.specs.Form.{blockCode}
 use Rattle.command.specs.declared.command.Command.the-variants.{Program, Read, BlankCheck, EraseBlock, EraseChip, WriteByte, WriteHsb, StartReset, StartAt}
 use Rattle.command.specs.declared.command.Command.the-variants.{ReadVersion, ReadByte, ReadHsb}
+use Rattle.command.specs.Form.{blockCode}
 use Rattle.command.specs.Address.{badAddress}
 use Rattle.command.specs.declared.transfer.Transfer.{Transfer}
 use Rattle.command.specs.declared.transfer.Transfer.the-variants.{Of, NoTransfer}
