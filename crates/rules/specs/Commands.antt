@@ -7,7 +7,7 @@ use lib.Dec.{eqb}
 use Rattle.words.specs.Words.{if_then_else_}
 use Rattle.memory.specs.Memory.{flashAddress}
 use Rattle.memory.specs.Pages.{Store, programStores, blockStores, chipStores}
-use Rattle.blank.specs.Blank.{usedIn}
+use Rattle.blank.specs.Blank.{At, usedIn, usedStatus}
 use Rattle.config.specs.Config.{version, configByte, withByte, withHsb, erasedConfig}
 use Rattle.config.specs.Level.{level}
 use Rattle.memory.specs.declared.address.Range.{Range}
@@ -64,7 +64,7 @@ program b (Eeprom a e) d = patches (b .config) (record { at = a; bytes = bodyOf 
 -- "A blank check that meets a byte not FFh sets 05h with state 3 and the first such address pending."
 abbrev pub blankEffect : Config → Option ℕ → Effect
 blankEffect c none = leaves c Nothing
-blankEffect c (some x) = record { status = 0x05; pending = BlankReport (flashAddress x); config = c; stored = []; patched = [] }
+blankEffect c (some x) = record { status = usedStatus (At (flashAddress x)); pending = BlankReport (flashAddress x); config = c; stored = []; patched = [] }
 
 -- each row of the table; d the whole data
 unfoldable pub perform : Board → Command → List ℕ → Effect
