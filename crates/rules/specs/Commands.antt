@@ -7,7 +7,8 @@ use lib.Dec.{eqb}
 use Rattle.words.specs.Words.{if_then_else_}
 use Rattle.memory.specs.Memory.{flashAddress}
 use Rattle.memory.specs.Pages.{Store, programStores, blockStores, chipStores}
-use Rattle.blank.specs.Blank.{At, usedIn, usedStatus}
+use Rattle.blank.specs.Blank.{usedIn, usedStatus}
+use Rattle.blank.specs.declared.search.Used.the-variants.{At}
 use Rattle.config.specs.Config.{version, configByte, withByte, withHsb, erasedConfig}
 use Rattle.config.specs.Level.{level}
 use Rattle.memory.specs.declared.address.Range.{Range}
