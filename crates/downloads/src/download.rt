@@ -1,7 +1,9 @@
 // DNLOAD: a command, or the end of a download.
 ghost use mathlib.Core.Path.{_≡_};
 ghost use Rattle.command.specs.Form.{form};
-ghost use Rattle.rules.specs.Result.{board as boardOf, answer};
+ghost use mathlib.Core.List.{[]};
+ghost use Rattle.rules.specs.Session.{session as sessionOf};
+ghost use Rattle.rules.specs.Result.{board as boardOf, reply as replyOf, answer};
 ghost use Rattle.rules.specs.Commands.{obey as obeyOf, obeyForm};
 ghost use Rattle.rules.specs.Requests.{endPlain, endDownload, dnload as dnloadOf};
 ghost use Rattle.downloads.specs.Download.{downloaded};
@@ -24,6 +26,13 @@ use rules::Session;
 // "wLength over 1,103: stall."
 const MOST_DATA: u16 = 1103;
 
+// "A status above is set with state 10 and nothing pending, and nothing else moves."
+fn failed(config: Config, status: u8) -> Answer
+    ensures { λ r. ⌜ r ≡ answer (replyOf config Outcome.Done [] (sessionOf 10 status Pending.Nothing)) ⌝ }
+{
+    quiet(config, Outcome::Done, 10, status, Pending::Nothing)
+}
+
 // A command whose form is right: the level, the address, and at last the whole length; then it is done.
 fn obey(
     session: Session,
@@ -41,16 +50,10 @@ fn obey(
     let status = level_status(command, level);
     let wrong = command::bad_address(command);
     if status != 0x00 {
-        return quiet(config, Outcome::Done, 10, status, Pending::Nothing);
+        return failed(config, status);
     }
     if wrong {
-        return quiet(
-            config,
-            Outcome::Done,
-            10,
-            BAD_ADDRESS_STATUS,
-            Pending::Nothing,
-        );
+        return failed(config, BAD_ADDRESS_STATUS);
     }
     if command::wrong_length(command, sent.len()) {
         return stall(session, config);
