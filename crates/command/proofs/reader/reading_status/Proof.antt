@@ -5,4 +5,6 @@ use Rattle.command.proofs.reader.reading_status.Statement.{statement}
 use Rattle.command.proofs.reader.reading_status.Tie as tie
 
 pub reading-status-spec : {M : Type 1} → statement M
-reading-status-spec = tie.close (tie.spec (λ c. search needs) (λ c. search needs) (λ c. search needs) (λ c. search needs) (λ c. search needs) (λ c. search needs))
+reading-status-spec = tie.close
+    (tie.spec (λ c. search needs) (λ c. search needs) (λ c. search needs) (λ c. search needs) (λ c. search needs)
+    (λ c. search needs))

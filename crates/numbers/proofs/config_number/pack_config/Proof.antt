@@ -5,4 +5,6 @@ use Rattle.numbers.proofs.config_number.pack_config.Statement.{statemen
 use Rattle.numbers.proofs.config_number.pack_config.Tie as tie
 
 pub pack-config-spec : {M : Type 1} → statement M
-pack-config-spec = tie.close (tie.spec (λ c κs. search needs) (λ c κs. search needs) (λ c κs. search needs) (λ c κs. search needs) (λ c κs. search needs) (λ c. search needs))
+pack-config-spec = tie.close
+    (tie.spec (λ c κs. search needs) (λ c κs. search needs) (λ c κs. search needs) (λ c κs. search needs)
+    (λ c κs. search needs) (λ c. search needs))
