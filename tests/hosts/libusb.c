@@ -10,17 +10,13 @@
 #include <stdlib.h>
 #include <string.h>
 
+#include "side_board_loader.h"
+
 enum { SUCCESS = 0, ERROR_NO_DEVICE = -4, ERROR_NOT_FOUND = -5, ERROR_PIPE = -9 };
 enum { SETUP_SIZE = 8, REPLY_SIZE = 1024, DEVICE_TO_HOST = 0x80, RUNS_APPLICATION = 0 };
 enum { DONE, STALL, START_RESET, START_AT, REFUSED };
 
-// ---- the loader, from crates/exports
-
-uint64_t loader_step(uint64_t *session, uint64_t *config, const uint8_t *setup, size_t setup_size, const uint8_t *sent, size_t sent_size,
-                     uint8_t *flash, size_t flash_size, uint8_t *eeprom, size_t eeprom_size, uint8_t *reply, size_t reply_size,
-                     size_t *count, size_t *pages);
-
-// ---- the board and its file; the layout of the numbers stands in crates/exports/specs/Layout.antt
+// ---- the board and its file; the layout of the numbers stands in crates/exports/c/side_board_loader.h
 
 static struct {
     uint64_t session, config;
