@@ -1,6 +1,6 @@
 -- What the proofs of the small requests share.
 -- Assumes nothing.
-use mathlib.Core.Logic.{_⊎_, inl, inr}
+use mathlib.Core.Logic.{inl, inr}
 use mathlib.Core.Path.{_≡_, refl, _∙_}
 use mathlib.Core.Bool.{true, false, or-true}
 use mathlib.Core.List.{List, [], _∷_, _++_}
@@ -34,10 +34,6 @@ pub none-of : (ks : List ℕ) (n : ℕ) → (OneOf ks n → ⊥) → among n ks 
 none-of [] n h = refl
 none-of (k ∷ []) n h = rw (ne-eqb n k h)
 none-of (k ∷ k′ ∷ ks) n h = rw (ne-eqb n k (λ e. h (inl e))) (none-of (k′ ∷ ks) n (λ r. h (inr r)))
-
--- a state that is neither of two
-pub neither : (n x y : ℕ) → (n ≡ x → ⊥) → (n ≡ y → ⊥) → among n (x ∷ y ∷ []) ≡ false
-neither n x y a b = rw (ne-eqb n x a, ne-eqb n y b)
 
 -- a request that clears in some states
 module _ (states : List ℕ) (s : Session) (c : Config) (a : Answer) where
