@@ -1,4 +1,4 @@
--- The paper's "Levels of security": the level of a board. Assumes nothing: these are definitions.
+-- The papers' levels of security: the level of a board. Assumes nothing: these are definitions.
 use mathlib.Core.Path.{_≡_}
 use Prim.Native.Nat.{ℕ}
 use lib.Dec.{eqb}
@@ -7,25 +7,20 @@ use Rattle.config.specs.Config.{Config}
 pub use Rattle.config.specs.declared.level.Level.{Level}
 pub use Rattle.config.specs.declared.level.Level.the-variants.{L0, L1, L2}
 
--- "SSB FFh is level 0, FEh level 1, FCh level 2. Any other stored value counts as level 0."
+-- 01: "SSB FFh is level 0, FEh level 1, FCh level 2." P1 of 02: "a value other than FFh and FEh is level 2", so FCh is no case apart.
 abbrev pub level : Config → Level
 level c =
     if eqb (c .ssb) 0xFF then L0 else
-    if eqb (c .ssb) 0xFE then L1 else
-    if eqb (c .ssb) 0xFC then L2 else L0
+    if eqb (c .ssb) 0xFE then L1 else L2
 
--- the same sentence in the paper's numbers: the number of a level, and of the level that an SSB sets
+-- the paper's number of a level
 abbrev pub levelNumber : Level → ℕ
 levelNumber L0 = 0
 levelNumber L1 = 1
 levelNumber L2 = 2
 
-abbrev pub ssbLevel : ℕ → ℕ
-ssbLevel ssb =
-    if eqb ssb 0xFF then 0 else
-    if eqb ssb 0xFE then 1 else
-    if eqb ssb 0xFC then 2 else 0
-
--- each configuration's level has the number that the paper gives it
-abbrev pub LevelsNumbered : Type 0
-LevelsNumbered = (c : Config) → levelNumber (level c) ≡ ssbLevel (c .ssb)
+-- the same sentences, one by one, in the paper's numbers
+pub record LevelsNumbered : Type 0 where
+  pub ffh : (c : Config) → c .ssb ≡ 0xFF → levelNumber (level c) ≡ 0
+  pub feh : (c : Config) → c .ssb ≡ 0xFE → levelNumber (level c) ≡ 1
+  pub other : (c : Config) → (c .ssb ≡ 0xFF → ⊥) → (c .ssb ≡ 0xFE → ⊥) → levelNumber (level c) ≡ 2

@@ -9,7 +9,7 @@ pub enum Level {
     L2,
 }
 
-// The level that a board's SSB sets; every stored value has one.
+// The level that a board's SSB sets. Every value has one, and a byte that nobody meant to store keeps the memories closed.
 pub fn level_of(config: Config) -> Level
     ensures { λ r. ⌜ r ≡ level config ⌝ }
 {
@@ -17,7 +17,6 @@ pub fn level_of(config: Config) -> Level
     match ssb {
         0xFF => Level::L0,
         0xFE => Level::L1,
-        0xFC => Level::L2,
-        _ => Level::L0,
+        _ => Level::L2,
     }
 }

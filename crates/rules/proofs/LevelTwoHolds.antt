@@ -23,6 +23,7 @@ use Rattle.config.specs.Level.{level}
 use Rattle.memory.specs.declared.address.FlashAddress.{FlashAddress}
 use Rattle.config.specs.declared.config.Config.{Config}
 use Rattle.config.specs.declared.level.Level.the-variants.{L2}
+use Rattle.config.proofs.LevelLaws.{other-is-level-2}
 use Rattle.memory.proofs.PagesLaws.{storeAll-chipStores}
 use Rattle.blank.proofs.BlankLaws.{marks, usedIn-same, usedIn-one}
 use Rattle.command.specs.Form.{form}
@@ -37,7 +38,7 @@ use Rattle.rules.specs.Requests.{endDownload, upload, send, respond}
 use Rattle.rules.specs.Refusals.{refusal}
 use Rattle.rules.specs.Step.{Event, Ask, PowerUp, ask, step, Report, reports, lastSent}
 use Rattle.rules.specs.BenchCases.{Ready, Unnamed, download, askStatus}
-use Rattle.rules.specs.LevelTwo.{SameBlank, isChipErase, upToErase, KeptSecret, KeptSecretEver, probe, ToldApart}
+use Rattle.rules.specs.LevelTwo.{SameBlank, isChipErase, upToErase, KeptSecret, KeptSecretEver, OddBoardsCovered, probe, ToldApart}
 use Rattle.rules.proofs.Shape.{Passed, Shape, refused, still, did, shape}
 use Rattle.rules.proofs.Ready.{commanded, statusOf}
 
@@ -228,6 +229,9 @@ kept-secret-ever b b′ a q vs =
     ∙ ap (λ s. reports (board s (b .config) (b′ .flash) (b .eeprom)) vs) (a .same-session)
     ∙ ap (λ c. reports (board (b′ .session) c (b′ .flash) (b .eeprom)) vs) (a .same-config)
     ∙ ap (λ e. reports (board (b′ .session) (b′ .config) (b′ .flash) e) vs) q
+
+pub odd-boards-covered : OddBoardsCovered
+odd-boards-covered b = other-is-level-2 (b .config)
 
 -- ---- the converse
 

@@ -63,6 +63,11 @@ KeptSecret = (b b′ : Board) → Alike b b′ → (vs : List Event) → reports
 abbrev pub KeptSecretEver : Type 0
 KeptSecretEver = (b b′ : Board) → Alike b b′ → b .eeprom ≡ b′ .eeprom → (vs : List Event) → reports b vs ≡ reports b′ vs
 
+-- P1 of 02: "Demand 3 covers every such board", one whose SSB is neither FFh nor FEh, "and two boards compared still hold the same
+-- SSB": it is at level 2, and `same-config` asks for the byte itself
+abbrev pub OddBoardsCovered : Type 0
+OddBoardsCovered = (b : Board) → (b .config .ssb ≡ 0xFF → ⊥) → (b .config .ssb ≡ 0xFE → ⊥) → level (b .config) ≡ L2
+
 -- memories of their sizes
 abbrev pub Sized : Board → Type 0
 Sized b = Sizes (b .flash) (b .eeprom)

@@ -1,6 +1,7 @@
 -- `config::level::level_of` meets its contract: each arm is a line of `level`.
 -- Assumes nothing.
-use borrow.Author.Tests.{ne-eqb}
+use mathlib.Core.Path.{sym}
+use Rattle.config.proofs.LevelLaws.{other-is-level-2}
 use Rattle.config.proofs.level.level_of.Statement.{statement}
 use Rattle.config.proofs.level.level_of.Tie as tie
 
@@ -11,10 +12,7 @@ returns-2 : tie.Need-returns-2
 returns-2 c = simp (c .match .keys2)
 
 returns-3 : tie.Need-returns-3
-returns-3 c = simp (c .match .keys3)
-
-returns-4 : tie.Need-returns-4
-returns-4 c = simp (ne-eqb _ _ (c .match .rest .0 .0 .1), ne-eqb _ _ (c .match .rest .0 .1), ne-eqb _ _ (c .match .rest .1))
+returns-3 c = sym (other-is-level-2 (c .before .args .config) (c .match .rest .0 .1) (c .match .rest .1))
 
 pub level-of-spec : {M : Type 1} → statement M
-level-of-spec = tie.close (tie.spec returns returns-2 returns-3 returns-4)
+level-of-spec = tie.close (tie.spec returns returns-2 returns-3)
