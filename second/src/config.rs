@@ -21,6 +21,10 @@ const ERR_WRITE: u8 = 0x03;
 /// "errVENDOR" of the source documents.
 const ERR_VENDOR: u8 = 0x0B;
 
+/// The level of a stored SSB that 01 does not name. 02, P1: "a value other than
+/// FFh and FEh is level 2".
+const ODD: Level = if cfg!(feature = "odd-ssb-is-level-0") { Level::Zero } else { Level::Two };
+
 /// "Configuration, eight bytes"; "the board may hold any eight values".
 #[derive(Clone, Copy, Debug, PartialEq, Eq)]
 pub struct Config {
@@ -35,12 +39,14 @@ impl Config {
     pub const DELIVERED: Config =
         Config { bytes: [0xFF, 0xFC, 0xFE, 0xFF, 0xFF, 0xFF, 0xFF], hsb: 0xBB };
 
-    /// The level that the stored SSB stands for.
+    /// The level that the stored SSB stands for. 01: "SSB FFh is level 0, FEh
+    /// level 1, FCh level 2"; 02, P1 for the other values.
     pub const fn level(&self) -> Level {
         match self.bytes[SSB as usize] {
+            0xFF => Level::Zero,
             0xFE => Level::One,
             0xFC => Level::Two,
-            _ => Level::Zero,
+            _ => ODD,
         }
     }
 
@@ -84,7 +90,7 @@ pub(crate) const fn is_readable(index: u8) -> bool {
     matches!(index, 0x00..=0x06 | 0x30 | 0x31 | 0x60 | 0x61)
 }
 
-/// "SSB FFh is level 0, FEh level 1, FCh level 2. Any other ... level 0."
+/// The three columns of the level table.
 #[derive(Clone, Copy, Debug, PartialEq, Eq)]
 pub enum Level {
     /// Everything is allowed, but not every SSB value.

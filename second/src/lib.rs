@@ -1,5 +1,5 @@
 //! The device side of the AT89C5131A USB bootloader in DFU mode, the host's
-//! command writer and the bench program, written from the scope paper alone
+//! command writer and the bench program, written from the scope papers alone
 //! to be compared, input by input, with the first program.
 
 #![forbid(unsafe_code)]

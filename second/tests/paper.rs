@@ -1,5 +1,6 @@
-//! The paper, sentence by sentence. Every expectation is worked out from its
-//! words; none is taken from what the program printed.
+//! The paper, sentence by sentence, with P1 of the change requests. Every
+//! expectation is worked out from their words; none is taken from what the
+//! program printed.
 
 use std::io::Write;
 use std::process::{Command as Process, Stdio};
@@ -17,6 +18,21 @@ const DETACH: [u8; 8] = [0x21, 0, 0, 0, 0, 0, 0, 0];
 const LEVEL_0: u8 = 0xFF;
 const LEVEL_1: u8 = 0xFE;
 const LEVEL_2: u8 = 0xFC;
+
+/// "SSB FFh is level 0, FEh level 1, FCh level 2", and by P1 "a value other than
+/// FFh and FEh is level 2".
+fn level_of(ssb: u8) -> Level {
+    match ssb {
+        0xFF => Level::Zero,
+        0xFE => Level::One,
+        _ => Level::Two,
+    }
+}
+
+/// The 254 values of level 2: FCh and the odd ones.
+fn level_2_values() -> impl Iterator<Item = u8> {
+    (0..=255).filter(|&ssb| level_of(ssb) == Level::Two)
+}
 
 /// The states that refusals 6 and 7 let through.
 const STATES: [u8; 6] = [2, 3, 5, 6, 9, 10];
@@ -271,21 +287,23 @@ fn case_8_read_at_level_2() {
 
 #[test]
 fn case_9_blank_check_at_level_2() {
-    let mut rig = Rig::new().ssb(LEVEL_2);
-    rig.flash[0x1234] = 0x00;
-    rig.flash[0x1235] = 0x00;
-    let rig = command(&rig, &ranged(0x03, 0x01, 0x0000, 0x7FFF), |rig| {
-        rig.session = Session { state: 3, status: 0x05, pending: Pending::Blank(0x1234) };
-        Said(Outcome::Done, vec![], 0)
-    });
-    let rig = expect(&rig, &GETSTATUS, &[], |rig| {
-        rig.session.state = 5;
-        Said(Outcome::Done, vec![0x05, 0, 0, 0, 5, 0], 0)
-    });
-    expect(&rig, &upload(2), &[], |rig| {
-        idles(rig);
-        Said(Outcome::Done, vec![0x12, 0x34], 0)
-    });
+    for ssb in level_2_values() {
+        let mut rig = Rig::new().ssb(ssb);
+        rig.flash[0x1234] = 0x00;
+        rig.flash[0x1235] = 0x00;
+        let rig = command(&rig, &ranged(0x03, 0x01, 0x0000, 0x7FFF), |rig| {
+            rig.session = Session { state: 3, status: 0x05, pending: Pending::Blank(0x1234) };
+            Said(Outcome::Done, vec![], 0)
+        });
+        let rig = expect(&rig, &GETSTATUS, &[], |rig| {
+            rig.session.state = 5;
+            Said(Outcome::Done, vec![0x05, 0, 0, 0, 5, 0], 0)
+        });
+        expect(&rig, &upload(2), &[], |rig| {
+            idles(rig);
+            Said(Outcome::Done, vec![0x12, 0x34], 0)
+        });
+    }
 }
 
 #[test]
@@ -295,14 +313,16 @@ fn case_10_ssb_fe_at_level_1() {
 
 #[test]
 fn case_11_full_erase_at_level_2() {
-    let mut rig = Rig::filled().ssb(LEVEL_2);
-    rig.config = Config { bytes: [1, 2, 3, 4, 5, LEVEL_2, 7], hsb: 8 };
-    let rig = command(&rig, &[0x04, 0x00, 0xFF], |rig| {
-        rig.flash.fill(0xFF);
-        rig.config = Config { bytes: [0xFF, 0xFC, 3, 4, 5, 0xFF, 7], hsb: 8 };
-        taken(rig, Pending::Nothing, 256)
-    });
-    assert_eq!(rig.config.level(), Level::Zero);
+    let mut filled = Rig::filled();
+    filled.config = Config { bytes: [1, 2, 3, 4, 5, 6, 7], hsb: 8 };
+    for ssb in level_2_values() {
+        let rig = command(&filled.clone().ssb(ssb), &[0x04, 0x00, 0xFF], |rig| {
+            rig.flash.fill(0xFF);
+            rig.config = Config { bytes: [0xFF, 0xFC, 3, 4, 5, 0xFF, 7], hsb: 8 };
+            taken(rig, Pending::Nothing, 256)
+        });
+        assert_eq!(rig.config.level(), Level::Zero);
+    }
 }
 
 #[test]
@@ -510,6 +530,22 @@ fn power_up_is_state_2_and_nothing_pending() {
     }
 }
 
+/// It "keeps the rest": the host then reads the SSB that was stored before.
+#[test]
+fn power_up_keeps_every_ssb() {
+    for ssb in 0..=255 {
+        let mut rig = Rig::new().at(10, 0x0F, Pending::Nothing).ssb(ssb);
+        power_up(&mut rig.session);
+        rig.send(&dnload(3), &[0x05, 0x01, 0x05]);
+        rig.send(&GETSTATUS, &[]);
+        expect(&rig, &upload(1), &[], |rig| {
+            idles(rig);
+            Said(Outcome::Done, vec![ssb], 0)
+        });
+        assert_eq!(rig.config, Rig::new().ssb(ssb).config);
+    }
+}
+
 #[test]
 fn getstatus_rows() {
     for (state, entered) in [(2, 2), (3, 5), (5, 5), (6, 2), (9, 9), (10, 10)] {
@@ -694,13 +730,14 @@ fn dnload_lengths_1103_and_1104() {
 
 #[test]
 fn upload_rows() {
+    let filled = Rig::filled();
     for state in STATES {
         for pending in pendings() {
-            for ssb in [LEVEL_0, LEVEL_1, LEVEL_2, 0x00] {
-                let rig = Rig::filled().at(state, 5, pending).ssb(ssb);
+            for ssb in 0..=255 {
+                let rig = filled.clone().at(state, 5, pending).ssb(ssb);
                 expect(&rig, &upload(0), &[], stalls);
                 let whole = match pending {
-                    Pending::Read { .. } if ssb == LEVEL_2 => None,
+                    Pending::Read { .. } if level_of(ssb) == Level::Two => None,
                     Pending::Read { memory: Memory::Flash, start, end } => {
                         Some(rig.flash[start.into()..=end.into()].to_vec())
                     }
@@ -815,35 +852,45 @@ fn a_refused_write_keeps_its_status_until_clrstatus() {
 #[test]
 fn ssb_values_and_levels() {
     for ssb in 0..=255 {
-        let level = match ssb {
-            0xFE => Level::One,
-            0xFC => Level::Two,
-            _ => Level::Zero,
-        };
-        assert_eq!(Rig::new().ssb(ssb).config.level(), level);
+        assert_eq!(Rig::new().ssb(ssb).config.level(), level_of(ssb), "{ssb:02X}");
     }
 }
 
-/// The first row of the table, and the fourth, for each level.
+/// What a taken payload stores.
+type Store = fn(&mut Rig);
+
+/// The first row of the table: each payload, what it stores, its pages.
 #[test]
-fn level_cells_of_memory_writes_and_the_free_commands() {
-    for (ssb, level) in [(0xFF, 0), (0x00, 0), (0xFD, 0), (0x7F, 0), (0xFE, 1), (0xFC, 2)] {
-        let rig = Rig::new().ssb(ssb);
-        let writes = [
-            transfer(0, 0x0100, 0x0101, &[0xFF, 0xFF], 9),
-            transfer(1, 0x0100, 0x0101, &[0xFF, 0xFF], 9),
-            vec![0x04, 0x00, 0x00],
-            vec![0x04, 0x00, 0x20],
-            vec![0x04, 0x00, 0x40],
-            vec![0x04, 0x02, 0x00, 0xB0],
-        ];
-        for (payload, pages) in writes.iter().zip([1, 0, 64, 64, 128, 0]) {
-            if level == 0 {
-                command(&rig, payload, |rig| taken(rig, Pending::Nothing, pages));
+fn level_cells_of_memory_writes() {
+    let filled = Rig::filled();
+    let rows: [(Vec<u8>, Store, usize); 6] = [
+        (transfer(0, 0x0100, 0x0100, &[0x42], 9), |rig| rig.flash[0x0100] = 0x42, 1),
+        (transfer(1, 0x0100, 0x0100, &[0x42], 9), |rig| rig.eeprom[0x0100] = 0x42, 0),
+        (vec![0x04, 0x00, 0x00], |rig| rig.flash[..0x2000].fill(0xFF), 64),
+        (vec![0x04, 0x00, 0x20], |rig| rig.flash[0x2000..0x4000].fill(0xFF), 64),
+        (vec![0x04, 0x00, 0x40], |rig| rig.flash[0x4000..].fill(0xFF), 128),
+        (vec![0x04, 0x02, 0x00, 0x4F], |rig| rig.config.hsb = 0x4B, 0),
+    ];
+    for ssb in 0..=255 {
+        let rig = filled.clone().ssb(ssb);
+        for (payload, store, pages) in &rows {
+            if level_of(ssb) == Level::Zero {
+                command(&rig, payload, |rig| {
+                    store(rig);
+                    taken(rig, Pending::Nothing, *pages)
+                });
             } else {
                 command(&rig, payload, sets(0x03));
             }
         }
+    }
+}
+
+/// The fourth row but for the reads: yes at every level, and SSB stays as stored.
+#[test]
+fn level_cells_of_the_free_commands() {
+    for ssb in 0..=255 {
+        let rig = Rig::new().ssb(ssb);
         for index in [0, 1, 2, 3, 4, 6_u8] {
             command(&rig, &[0x04, 0x01, index, 0x5A], |rig| {
                 rig.config.bytes[usize::from(index)] = 0x5A;
@@ -864,7 +911,7 @@ fn level_cells_of_memory_writes_and_the_free_commands() {
 
 #[test]
 fn level_cells_of_reads() {
-    for (ssb, level) in [(0xFF, 0), (0x00, 0), (0xFD, 0), (0xFE, 1), (0xFC, 2)] {
+    for ssb in 0..=255 {
         let rig = Rig::new().ssb(ssb);
         let pend = |memory| Pending::Read { memory, start: 0, end: 0xFF };
         let reads = [
@@ -873,7 +920,7 @@ fn level_cells_of_reads() {
             (vec![0x05, 0x02, 0x00], Pending::Byte(0xBB)),
         ];
         for (payload, pending) in reads {
-            if level == 2 {
+            if level_of(ssb) == Level::Two {
                 command(&rig, &payload, sets(0x0B));
             } else {
                 command(&rig, &payload, |rig| taken(rig, pending, 0));
@@ -903,10 +950,10 @@ fn level_cells_of_reads() {
 fn level_cells_of_writing_ssb() {
     for ssb in 0..=255 {
         for value in 0..=255 {
-            let yes = match ssb {
-                0xFC => false,
-                0xFE => value == 0xFC,
-                _ => value == 0xFE || value == 0xFC,
+            let yes = match level_of(ssb) {
+                Level::Zero => value == 0xFE || value == 0xFC,
+                Level::One => value == 0xFC,
+                Level::Two => false,
             };
             let mut session = Rig::new().session;
             let mut config = Rig::new().ssb(ssb).config;
@@ -923,6 +970,54 @@ fn level_cells_of_writing_ssb() {
 
 fn small_board() -> ([u8; 32_768], [u8; 1_024], [u8; 1_024]) {
     ([0xFF; 32_768], [0xFF; 1_024], [0; 1_024])
+}
+
+/// Case 11 ends at level 0, so the board is programmed and read from there.
+#[test]
+fn a_board_of_level_2_is_free_after_a_full_erase() {
+    for ssb in level_2_values() {
+        let mut rig = Rig::new().ssb(ssb);
+        rig.send(&dnload(3), &[0x04, 0x00, 0xFF]);
+        rig.send(&GETSTATUS, &[]);
+        let mut rig = command(&rig, &transfer(0, 0x00AF, 0x00AF, &[0x42], 0), |rig| {
+            rig.flash[0x00AF] = 0x42;
+            taken(rig, Pending::Nothing, 1)
+        });
+        rig.send(&GETSTATUS, &[]);
+        let mut rig = command(&rig, &ranged(0x03, 0x00, 0x00AE, 0x00AF), |rig| {
+            taken(rig, flash_read(0x00AE, 0x00AF), 0)
+        });
+        rig.send(&GETSTATUS, &[]);
+        expect(&rig, &upload(2), &[], |rig| {
+            idles(rig);
+            Said(Outcome::Done, vec![0xFF, 0x42], 0)
+        });
+    }
+}
+
+/// P1: "Demand 3 covers every such board, and two boards compared still hold the
+/// same SSB." No request tells apart flash bytes of which neither is FFh:
+/// READINGS 37.
+#[test]
+fn two_boards_of_level_2_with_one_ssb_answer_alike() {
+    let mut random = Xorshift(0x0F1E_2D3C_4B5A_6978);
+    let (mut zeros, mut others) = (Rig::new(), Rig::new());
+    for at in (0..32_768).step_by(61) {
+        zeros.flash[at] = 0x00;
+        others.flash[at] = 0x7F;
+    }
+    for ssb in level_2_values() {
+        let (mut one, mut two) = (zeros.clone().ssb(ssb), others.clone().ssb(ssb));
+        for _ in 0..100 {
+            let (state, pending) = (random.pick(&STATES), random.pick(&pendings()));
+            one.session = Session { state, status: 0, pending };
+            two.session = one.session;
+            let (setup, data) = any_request(&mut random);
+            assert_eq!(one.send(&setup, &data), two.send(&setup, &data));
+            assert_eq!((one.session, one.config), (two.session, two.config));
+            assert!(one.reply == two.reply, "{setup:02X?}");
+        }
+    }
 }
 
 #[test]
@@ -959,7 +1054,7 @@ fn write_configuration_bytes_and_hsb_in_full() {
 #[test]
 fn order_form_level_address_length() {
     let at = |ssb| Rig::new().ssb(ssb);
-    for ssb in [LEVEL_0, LEVEL_1, LEVEL_2] {
+    for ssb in 0..=255 {
         // Form first, even where the level would say no and the address is bad.
         command(&at(ssb), &[0x01, 0x00, 0xFF, 0xFF, 0x00], stalls);
         command(&at(ssb), &[0x01, 0x02, 0xFF, 0xFF, 0x00, 0x00], stalls);
@@ -971,9 +1066,11 @@ fn order_form_level_address_length() {
     }
     // Level before address.
     command(&at(LEVEL_1), &ranged(0x01, 0x00, 2, 1), sets(0x03));
-    command(&at(LEVEL_2), &transfer(1, 0x0400, 0x0400, &[0], 0), sets(0x03));
-    command(&at(LEVEL_2), &ranged(0x03, 0x00, 0x8000, 0x8000), sets(0x0B));
-    command(&at(LEVEL_2), &ranged(0x03, 0x02, 0x0400, 0x0400), sets(0x0B));
+    for ssb in level_2_values() {
+        command(&at(ssb), &transfer(1, 0x0400, 0x0400, &[0], 0), sets(0x03));
+        command(&at(ssb), &ranged(0x03, 0x00, 0x8000, 0x8000), sets(0x0B));
+        command(&at(ssb), &ranged(0x03, 0x02, 0x0400, 0x0400), sets(0x0B));
+    }
     command(&at(LEVEL_1), &ranged(0x03, 0x00, 0x8000, 0x8000), sets(0x08));
     // Level before the whole length: six bytes are form enough.
     command(&at(LEVEL_1), &ranged(0x01, 0x00, 1, 1), sets(0x03));
@@ -1823,6 +1920,19 @@ fn shake(rig: &mut Rig, random: &mut Xorshift) {
     rig.config.bytes[5] = random.pick(&[0xFF, 0xFE, 0xFC, byte]);
 }
 
+/// A request, often a command, and now and then with a setup byte off.
+fn any_request(random: &mut Xorshift) -> ([u8; 8], Vec<u8>) {
+    let data = if random.below(2) == 0 { any_payload(random) } else { vec![] };
+    let mut setup = dnload(data.len());
+    if data.is_empty() {
+        setup = random.pick(&[GETSTATE, GETSTATUS, CLRSTATUS, ABORT, upload(77)]);
+    }
+    if random.below(8) == 0 {
+        setup[random.below(8)] = random.byte();
+    }
+    (setup, data)
+}
+
 /// Anything at all is answered, and a refusal or a stall moves what it may.
 #[test]
 fn step_is_total() {
@@ -1830,14 +1940,7 @@ fn step_is_total() {
     let mut rig = Rig::filled();
     for _ in 0..40_000 {
         shake(&mut rig, &mut random);
-        let data = if random.below(2) == 0 { any_payload(&mut random) } else { vec![] };
-        let mut setup = dnload(data.len());
-        if data.is_empty() {
-            setup = random.pick(&[GETSTATE, GETSTATUS, CLRSTATUS, ABORT, upload(77)]);
-        }
-        if random.below(8) == 0 {
-            setup[random.below(8)] = random.byte();
-        }
+        let (setup, data) = any_request(&mut random);
         let before = rig.clone();
         let answer = rig.send(&setup[..8 - random.below(50) / 49], &data);
         match answer.outcome {

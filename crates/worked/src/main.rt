@@ -1,6 +1,9 @@
 // The worked examples of document 01, run through the public functions. Each check is proved before it is run.
 ghost use mathlib.Core.Path.{_≡_};
 ghost use Rattle.memory.specs.Memory.{flashAddress};
+
+mod odd_board;
+
 use command::Command;
 use memory::FlashAddress;
 use memory::Range;
@@ -37,4 +40,5 @@ fn main() {
     padding();
     addresses();
     security_bits();
+    odd_board::odd_board();
 }

@@ -1,9 +1,11 @@
 //! Compares the loader, through the functions that crates/exports exports, with the second program.
 //!
-//! `compare [SEQUENCES [SEED [BENCH...]]]`: so many sequences and as many jobs; BENCH are the words that start our bench program.
+//! `compare [SEQUENCES [SEED [BENCH...]]]`: a board of every SSB value, then so many sequences and as many jobs; BENCH are the words
+//! that start our bench program.
 //! It prints how often each thing was reached, and fails at the first difference, or if something was not reached.
 
 mod commands;
+mod every_ssb;
 mod jobs;
 mod layout;
 mod make;
@@ -31,6 +33,10 @@ fn main() -> ExitCode {
     let mut bench = Bench::new(words.get(2..).unwrap_or(&[]));
     println!("compare: {sequences} sequences and jobs from seed {seed}");
     let mut tally = Tally::default();
+    if let Some(what) = boards(&mut tally) {
+        println!("DIFFERENCE {what}");
+        return ExitCode::FAILURE;
+    }
     for index in 0..sequences {
         let own = Random::seed_of(seed, index);
         if let Some(what) = one(&mut Random::new(own), &mut bench, &mut tally) {
@@ -54,6 +60,15 @@ fn main() -> ExitCode {
         return ExitCode::FAILURE;
     }
     ExitCode::SUCCESS
+}
+
+/// The boards of every SSB value.
+fn boards(tally: &mut Tally) -> Option<String> {
+    (0..=255).find_map(|ssb| {
+        let sequence = every_ssb::sequence(ssb);
+        sequence.run(tally)?;
+        Some(format!("at SSB {ssb:02X}h\n{}", told(&shrink::sequence(sequence))))
+    })
 }
 
 /// One sequence of requests, the payloads in it through reader and writer, and one job.
@@ -111,7 +126,7 @@ fn hex(bytes: &[u8]) -> String {
 
 /// The smallest sequence in words.
 fn told(sequence: &Sequence) -> String {
-    let (at, what) = sequence.run().unwrap_or_default();
+    let (at, what) = sequence.run(&mut Tally::default()).unwrap_or_default();
     let transfer = match sequence.steps.get(at) {
         Some(Step::Ask(request)) => request.setup.starts_with(&[0x21, 1]) && request.data.first() == Some(&1),
         _ => false,

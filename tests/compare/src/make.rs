@@ -11,7 +11,8 @@ const EDGES: [u16; 24] = [
     0x7BFF, 0x7C00, 0x7F80, 0x7FFE, 0x7FFF, 0x8000, 0xFFFE, 0xFFFF,
 ];
 const COUNTS: [u16; 14] = [1, 2, 3, 16, 17, 127, 128, 129, 300, 640, 896, 1023, 1024, 1025];
-const SSB: [u8; 6] = [0xFF, 0xFE, 0xFC, 0xFD, 0x00, 0x7F];
+/// Each level twice, the third by odd values too.
+const SSB: [u8; 8] = [0xFF, 0xFF, 0xFE, 0xFE, 0xFC, 0xFD, 0x00, 0x7F];
 
 fn address(random: &mut Random, size: usize) -> u16 {
     match random.below(10) {
@@ -32,9 +33,17 @@ fn range(random: &mut Random, size: usize) -> (u16, u16) {
     }
 }
 
-fn ranged(code: u8, selector: u8, (start, end): (u16, u16)) -> Vec<u8> {
+pub fn ranged(code: u8, selector: u8, (start, end): (u16, u16)) -> Vec<u8> {
     let ([s1, s0], [e1, e0]) = (start.to_be_bytes(), end.to_be_bytes());
     vec![code, selector, s1, s0, e1, e0]
+}
+
+/// A program transfer as it should be: 48 + X + n bytes, X being start mod 32.
+pub fn whole_transfer(random: &mut Random, selector: u8, (start, end): (u16, u16)) -> Vec<u8> {
+    let mut data = ranged(1, selector, (start, end));
+    let rest = 48 + usize::from(start % 32) + usize::from(end - start) + 1 - data.len();
+    data.extend(random.bytes(rest));
+    data
 }
 
 /// A program transfer: mostly 48 + X + n bytes, X being start mod 32.
@@ -120,22 +129,30 @@ fn request_of(setup: Vec<u8>, data: Vec<u8>) -> Request {
     Request { setup, data, flash: FLASH, eeprom: EEPROM, reply: REPLY }
 }
 
-fn download(random: &mut Random, data: Vec<u8>) -> Request {
+pub fn download(random: &mut Random, data: Vec<u8>) -> Request {
     let value = random.word();
     request_of(setup(0x21, 1, value, data.len()), data)
 }
 
-fn upload(random: &mut Random) -> Request {
-    let length = match random.below(8) {
+pub fn upload(random: &mut Random, length: usize) -> Request {
+    let value = random.word();
+    request_of(setup(0xA1, 2, value, length), vec![])
+}
+
+pub fn get_status() -> Request {
+    request_of(setup(0xA1, 3, 0, 6), vec![])
+}
+
+/// How much an UPLOAD asks for.
+fn upload_length(random: &mut Random) -> usize {
+    match random.below(8) {
         0 => 0,
         1..=2 => 1,
         3 => 2,
         4 => 1024,
         5 => 65535,
         _ => 1 + random.below(700),
-    };
-    let value = random.word();
-    request_of(setup(0xA1, 2, value, length), vec![])
+    }
 }
 
 /// A request that makes sense in this state, or one that does not.
@@ -151,13 +168,16 @@ fn plain(random: &mut Random, session: &Session) -> Request {
         _ => random.below(22),
     };
     match kind {
-        0..=5 => request_of(setup(0xA1, 3, 0, 6), vec![]),
+        0..=5 => get_status(),
         6..=7 => request_of(setup(0xA1, 5, 0, 1), vec![]),
         8 => request_of(setup(0x21, 6, 0, 0), vec![]),
         9..=10 => request_of(setup(0x21, 4, 0, 0), vec![]),
         11 => request_of(setup(0x21, 0, 0, 0), vec![]),
         12 => download(random, vec![]),
-        13..=15 => upload(random),
+        13..=15 => {
+            let length = upload_length(random);
+            upload(random, length)
+        }
         16 if random.chance(30) => {
             let count = random.of(&[1102, 1103, 1104, 1105, 1500]);
             let mut data = command(random);
@@ -217,7 +237,7 @@ pub fn session(random: &mut Random) -> u64 {
 
 pub fn config(random: &mut Random) -> u64 {
     let mut bytes = random.next().to_le_bytes();
-    bytes[5] = if random.chance(90) { random.of(&SSB) } else { random.byte() };
+    bytes[crate::layout::SSB] = if random.chance(90) { random.of(&SSB) } else { random.byte() };
     u64::from_le_bytes(bytes)
 }
 

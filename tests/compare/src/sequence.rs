@@ -176,9 +176,8 @@ impl Pair {
 
 impl Sequence {
     /// Runs it through both: the place of the step with the first difference, and the difference.
-    pub fn run(&self) -> Option<(usize, String)> {
+    pub fn run(&self, tally: &mut Tally) -> Option<(usize, String)> {
         let mut pair = Pair::new(self.session, self.config, self.fill);
-        let mut tally = Tally::default();
-        self.steps.iter().enumerate().find_map(|(at, step)| pair.take(step, &mut tally).map(|what| (at, what)))
+        self.steps.iter().enumerate().find_map(|(at, step)| pair.take(step, tally).map(|what| (at, what)))
     }
 }

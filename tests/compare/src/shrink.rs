@@ -1,13 +1,14 @@
 //! The smallest input that still shows a difference.
 
 use crate::sequence::{Fill, Request, Sequence, Step};
+use crate::tally::Tally;
 
 /// Leaves out steps and shortens data as long as a difference is left.
 pub fn sequence(mut found: Sequence) -> Sequence {
     loop {
-        let (at, _) = found.run().expect("it shows a difference");
+        let (at, _) = found.run(&mut Tally::default()).expect("it shows a difference");
         found.steps.truncate(at + 1);
-        match candidates(&found).into_iter().find(|smaller| smaller.run().is_some()) {
+        match candidates(&found).into_iter().find(|smaller| smaller.run(&mut Tally::default()).is_some()) {
             Some(smaller) => found = smaller,
             None => return found,
         }

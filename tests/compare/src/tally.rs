@@ -1,9 +1,9 @@
 //! How often each thing was reached, and what has to be.
 
-use crate::layout::pending_words;
+use crate::layout::{pack_command, pending_words, SSB};
 use crate::sequence::Request;
-use second::{Answer, Config, Level, Outcome, Session, StartKind};
-use std::collections::BTreeMap;
+use second::{Answer, Config, Level, Outcome, Reading, Session, StartKind};
+use std::collections::{BTreeMap, BTreeSet};
 
 pub const STATES: [u8; 7] = [0, 2, 3, 5, 6, 9, 10];
 const PENDING: [&str; 7] =
@@ -29,9 +29,18 @@ const COMMANDS: [&str; 16] = [
 const LEVELS: [&str; 3] = ["level 0", "level 1", "level 2"];
 const REQUESTS: [&str; 8] = ["DETACH", "DNLOAD", "UPLOAD", "GETSTATUS", "CLRSTATUS", "GETSTATE", "ABORT", "other"];
 
+/// The most data of a DNLOAD that is looked at.
+const MOST_DATA: usize = 1_103;
+/// So many values a byte has.
+const BYTES: usize = 256;
+
 #[derive(Default)]
 pub struct Tally {
     counts: BTreeMap<&'static str, BTreeMap<String, u64>>,
+    /// The board before the request: its state, what is pending, and its SSB.
+    before: (u8, usize, u8),
+    /// The SSB values that each command and an UPLOAD of each thing pending met.
+    ssb: BTreeMap<String, BTreeSet<u8>>,
     pub requests: u64,
     pub jobs: u64,
     pub bench_runs: u64,
@@ -44,8 +53,10 @@ impl Tally {
 
     pub fn before(&mut self, session: &Session, config: &Config) {
         let state = session.state;
+        let pending = usize::from(pending_words(session.pending)[0]);
+        self.before = (state, pending, config.bytes[SSB]);
         self.add("state before", if STATES.contains(&state) { state.to_string() } else { "none of these".into() });
-        self.add("pending before", PENDING[usize::from(pending_words(session.pending)[0])]);
+        self.add("pending before", PENDING[pending]);
         let level = match config.level() {
             Level::Zero => 0,
             Level::One => 1,
@@ -69,10 +80,28 @@ impl Tally {
         self.add("pending after", PENDING[usize::from(pending_words(session.pending)[0])]);
         self.add("pages", answer.pages.to_string());
         self.add("request", request_name(request));
-        if answer.outcome == Outcome::Done && request.setup[..2] == [0x21, 1] && session.state == 3 {
-            if let second::Reading::Command(command, ..) = second::read_command(&request.data) {
-                self.add("command accepted", COMMANDS[crate::layout::pack_command(&command) as usize & 0xF]);
+        self.level_asked(request, answer.outcome == Outcome::Done && session.state == 3);
+    }
+
+    /// A command that a DNLOAD brings in a state that takes one, and what an UPLOAD finds pending in a state that sends: there the
+    /// level is asked.
+    fn level_asked(&mut self, request: &Request, accepted: bool) {
+        let (state, pending, ssb) = self.before;
+        let asked = request.setup[4..6] == [0, 0] && request.setup[6..] != [0, 0];
+        match (request_name(request), state) {
+            ("DNLOAD", 2 | 5) if asked && request.data.len() <= MOST_DATA => {
+                if let Reading::Command(command, ..) = second::read_command(&request.data) {
+                    let name = COMMANDS[pack_command(&command) as usize & 0xF];
+                    self.ssb.entry(name.into()).or_default().insert(ssb);
+                    if accepted {
+                        self.add("command accepted", name);
+                    }
+                }
             }
+            ("UPLOAD", 5 | 9) if asked => {
+                self.ssb.entry(upload_of(PENDING[pending])).or_default().insert(ssb);
+            }
+            _ => {}
         }
     }
 
@@ -111,8 +140,23 @@ impl Tally {
             println!("  {kind}: {}", line.join(", "));
             missed.extend(names.iter().filter(|&name| count(name) == 0).map(|name| format!("{kind} {name}")));
         }
+        missed.extend(self.missed_ssb());
         missed
     }
+
+    /// Prints how many SSB values each command and each UPLOAD met, and gives those that did not meet all of them.
+    fn missed_ssb(&self) -> Vec<String> {
+        let commands = COMMANDS.iter().map(|name| name.to_string());
+        let names: Vec<String> = commands.chain(PENDING.iter().map(|name| upload_of(name))).collect();
+        let count = |name: &String| self.ssb.get(name).map_or(0, BTreeSet::len);
+        let line: Vec<String> = names.iter().map(|name| format!("{name}: {}", count(name))).collect();
+        println!("  SSB values: {}", line.join(", "));
+        names.iter().filter(|&name| count(name) < BYTES).map(|name| format!("every SSB at {name}")).collect()
+    }
+}
+
+fn upload_of(pending: &str) -> String {
+    format!("UPLOAD of {pending}")
 }
 
 fn request_name(request: &Request) -> &'static str {

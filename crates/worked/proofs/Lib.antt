@@ -1,0 +1,2 @@
+-- The laws of what the examples expect.
+pub mod OddBoardLaws

@@ -1,0 +1,2 @@
+-- What the examples expect.
+pub mod OddBoard
