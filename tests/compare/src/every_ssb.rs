@@ -1,11 +1,13 @@
 //! A board of every SSB value, at every command and at UPLOAD. The bench programs can't reach most of these values.
 
-use crate::layout::{self, SSB};
+use crate::layout;
 use crate::make;
 use crate::random::Random;
 use crate::sequence::{Fill, Sequence, Step};
 use second::{Memory, Pending, Session, StartKind};
 
+/// The index of SSB: its place in a configuration, and the byte of the number that it stands in.
+pub const SSB: usize = 5;
 /// Values for SSB: two that a cell of the table of levels has, and three that none has.
 const WRITTEN: [u8; 5] = [0xFF, 0xFE, 0xFC, 0xFD, 0x00];
 /// A place that both memories have.

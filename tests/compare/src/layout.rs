@@ -2,9 +2,6 @@
 
 use second::{Block, Command, Config, Memory, Outcome, Pending, Session, StartKind};
 
-/// The index of SSB: its place in a configuration, and the byte of the number that it stands in.
-pub const SSB: usize = 5;
-
 fn packed(words: [u16; 4]) -> u64 {
     words.iter().rev().fold(0, |n, &word| n << 16 | u64::from(word))
 }

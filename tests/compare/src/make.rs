@@ -1,5 +1,6 @@
 //! Requests, sessions and configurations, mostly right and often wrong by a little.
 
+use crate::every_ssb::SSB as SSB_PLACE;
 use crate::random::Random;
 use crate::sequence::{Fill, Request, Second, Sequence, Step, EEPROM, FLASH, REPLY, ROOM};
 use crate::tally::STATES;
@@ -237,7 +238,7 @@ pub fn session(random: &mut Random) -> u64 {
 
 pub fn config(random: &mut Random) -> u64 {
     let mut bytes = random.next().to_le_bytes();
-    bytes[crate::layout::SSB] = if random.chance(90) { random.of(&SSB) } else { random.byte() };
+    bytes[SSB_PLACE] = if random.chance(90) { random.of(&SSB) } else { random.byte() };
     u64::from_le_bytes(bytes)
 }
 

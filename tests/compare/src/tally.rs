@@ -1,6 +1,7 @@
 //! How often each thing was reached, and what has to be.
 
-use crate::layout::{pack_command, pending_words, SSB};
+use crate::every_ssb::SSB;
+use crate::layout::{pack_command, pending_words};
 use crate::sequence::Request;
 use second::{Answer, Config, Level, Outcome, Reading, Session, StartKind};
 use std::collections::{BTreeMap, BTreeSet};
