@@ -9,31 +9,26 @@ use lib.ListN.{length}
 use borrow.Author.Tests.{le-ltb}
 use Rattle.memory.specs.Memory.{flashAddress}
 use Rattle.memory.specs.declared.address.Range.the-variants.{Flash}
-use Rattle.config.specs.declared.config.Config.{Config}
 use Rattle.command.specs.Form.{form}
 use Rattle.rules.specs.Session.{session, idle}
 use Rattle.rules.specs.declared.session.Pending.the-variants.{MemoryRead}
 use Rattle.rules.specs.Result.{board, answer}
-use Rattle.rules.specs.Commands.{stall, obey, perform}
+use Rattle.rules.specs.Commands.{stall, obey}
 use Rattle.rules.specs.Requests.{requestOf, respond, dnload, upload}
 use Rattle.rules.specs.Refusals.{refusal, replySize}
 use Rattle.rules.specs.Step.{ask}
 use Rattle.rules.specs.Answered.{Room}
-use Rattle.worked.specs.OddBoard.{oddConfig, writeRefused, readTaken, uploadStalled}
+use Rattle.worked.specs.OddBoard.{oddConfig, writeRefused, uploadStalled}
 
-module _ (c : Config) (odd : c ≡ oddConfig) (f e p : List ℕ) (r : Room f e p) where
+module _ (f e p : List ℕ) (r : Room f e p) where
   room : ltb (length p) replySize ≡ false
   room = le-ltb (length p) replySize (r .room)
 
-  pub refuses-write : answer (ask (board idle c f e) (0x21 ∷ 1 ∷ 0 ∷ 0 ∷ 0 ∷ 0 ∷ 4 ∷ 0 ∷ []) (0x04 ∷ 0x01 ∷ 0x05 ∷ 0xFC ∷ []) (length p)) ≡ writeRefused
+  pub refuses-write : answer (ask (board idle oddConfig f e) (0x21 ∷ 1 ∷ 0 ∷ 0 ∷ 0 ∷ 0 ∷ 4 ∷ 0 ∷ []) (0x04 ∷ 0x01 ∷ 0x05 ∷ 0xFC ∷ []) (length p)) ≡ writeRefused
   unfolding ask refusal requestOf respond dnload form obey
-  refuses-write = rw (odd, r .sizes .flash-size, r .sizes .eeprom-size, room)
+  refuses-write = rw (r .sizes .flash-size, r .sizes .eeprom-size, room)
 
-  pub takes-read : answer (ask (board idle c f e) (0x21 ∷ 1 ∷ 0 ∷ 0 ∷ 0 ∷ 0 ∷ 3 ∷ 0 ∷ []) (0x05 ∷ 0x01 ∷ 0x05 ∷ []) (length p)) ≡ readTaken
-  unfolding ask refusal requestOf respond dnload form obey perform
-  takes-read = rw (odd, r .sizes .flash-size, r .sizes .eeprom-size, room)
-
-  pub stalls-upload : answer (ask (board (session 5 0x00 (MemoryRead (Flash (flashAddress 0x0000) (flashAddress 0x0000)))) c f e)
+  pub stalls-upload : answer (ask (board (session 5 0x00 (MemoryRead (Flash (flashAddress 0x0000) (flashAddress 0x0000)))) oddConfig f e)
       (0xA1 ∷ 2 ∷ 0 ∷ 0 ∷ 0 ∷ 0 ∷ 1 ∷ 0 ∷ []) [] (length p)) ≡ uploadStalled
   unfolding ask refusal requestOf respond upload stall
-  stalls-upload = rw (odd, r .sizes .flash-size, r .sizes .eeprom-size, room)
+  stalls-upload = rw (r .sizes .flash-size, r .sizes .eeprom-size, room)

@@ -1,4 +1,4 @@
-// The worked examples of document 01, run through the public functions. Each check is proved before it is run.
+// The worked examples of document 01, and of P1 of 02, run through the public functions. Each check is proved before it is run.
 ghost use mathlib.Core.Path.{_≡_};
 ghost use Rattle.memory.specs.Memory.{flashAddress};
 

@@ -1,20 +1,22 @@
--- `worked::odd_board::read_ssb` meets its contract: SSB is read as it is stored.
+-- `worked::odd_board::read_ssb`: an index that can be read gives its one byte, which is the stored one.
 -- Assumes nothing.
-use mathlib.Core.Path.{_∙_}
-use Rattle.worked.proofs.OddBoardLaws.{takes-read}
+use mathlib.Core.Path.{_∙_, ap, sym, refl}
+use lib.ListN.{getD}
+use Rattle.config.specs.Config.{bytesRead, byteRead, ssbIndex}
+use Rattle.config.proofs.ConfigLaws.{bytesRead-readable}
+use Rattle.worked.specs.OddBoard.{oddConfig}
+use borrow.Author.Tests.{eq-eqb}
 use borrow.Author.Needs.{needs}
 use Rattle.worked.proofs.odd_board.read_ssb.Statement.{statement}
 use Rattle.worked.proofs.odd_board.read_ssb.Tie as tie
 
-returns : tie.Need-returns
-returns c =
-    let step = c .before .before .before .before .before .before in
-    let odd = step .before .before .before .before .before .before in
-    let start = odd .before .before .before .before in
-    let a = start .args in
-    step .step .ensures .answered ∙ takes-read _ (odd .odd .ensures) (a .flash .now) (a .eeprom .now) (a .reply .now) (start .pre)
+expect-requires : tie.Need-expect-requires
+expect-requires c κs =
+    let read = c .before .before .before in
+    let byte = read .read-byte .ensures ∙ ap (byteRead ssbIndex) (read .before .odd .ensures) in
+    eq-eqb _ _ (ap (λ x. getD x 0 0) (ap bytesRead (sym (c .before .ssb .given .1) ∙ byte) ∙ bytesRead-readable ssbIndex oddConfig refl))
 
 pub read-ssb-spec : {M : Type 1} → statement M
 read-ssb-spec = tie.close (tie.spec
-    (λ c κs. search needs) (λ c. search needs) (λ c. search needs) (λ c κs. search needs)
-    (λ c. search needs) (λ c. search needs) (λ c. search needs) returns)
+    (λ c κs. search needs) (λ c κs. search needs) (λ c. search needs) (λ c. search needs) (λ c. search needs)
+    expect-requires (λ c. search needs))
