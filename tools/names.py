@@ -1,4 +1,4 @@
-"""Names and sentences of documents 01 and 02 and of the DFU papers behind them, in one place: requests, states, statuses, levels, refusals
+"""Names and sentences of document 01 and of the DFU papers behind it, in one place: requests, states, statuses, levels, refusals
 and configuration bytes."""
 
 # bmRequestType and bRequest, and for a request that is always the same its wValue and wLength.
@@ -34,7 +34,6 @@ LEVELS = {
     0xFE: "level 1: writing is refused",
     0xFC: "level 2: reading and writing are refused",
 }
-ODD = "an odd value and so level 2: reading and writing are refused"  # of every other SSB
 SECURITY_BYTE = 0x05
 
 MEMORIES = {"flash": 32768, "EEPROM": 1024}

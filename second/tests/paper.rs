@@ -1016,6 +1016,10 @@ fn two_boards_of_level_2_with_one_ssb_answer_alike() {
             assert_eq!(one.send(&setup, &data), two.send(&setup, &data));
             assert_eq!((one.session, one.config), (two.session, two.config));
             assert!(one.reply == two.reply, "{setup:02X?}");
+            if one.config.level() != Level::Two {
+                // A full chip erase: both are blank, and there is nothing left to tell apart.
+                (one, two) = (zeros.clone().ssb(ssb), others.clone().ssb(ssb));
+            }
         }
     }
 }

@@ -13,13 +13,13 @@ level c =
     if eqb (c .ssb) 0xFF then L0 else
     if eqb (c .ssb) 0xFE then L1 else L2
 
--- the paper's number of a level
+-- the papers' number of a level
 abbrev pub levelNumber : Level → ℕ
 levelNumber L0 = 0
 levelNumber L1 = 1
 levelNumber L2 = 2
 
--- the same sentences, one by one, in the paper's numbers
+-- the same sentences, one by one, in the papers' numbers
 pub record LevelsNumbered : Type 0 where
   pub ffh : (c : Config) → c .ssb ≡ 0xFF → levelNumber (level c) ≡ 0
   pub feh : (c : Config) → c .ssb ≡ 0xFE → levelNumber (level c) ≡ 1

@@ -24,7 +24,8 @@ use Rattle.rules.specs.BenchCases.{Unnamed, download, askStatus}
 abbrev pub SameBlank : List ℕ → List ℕ → Type 0
 SameBlank f f′ = (i : ℕ) → i < length f → (getD f i 0 ≡ 0xFF) ↔ (getD f′ i 0 ≡ 0xFF)
 
--- two boards at level 2 with one session, one configuration, memories of one size, and the same blank flash bytes
+-- two boards at level 2 with one session, one configuration, memories of one size, and the same blank flash bytes. P1 of 02: "two
+-- boards compared still hold the same SSB", the byte itself and not only its level
 pub record Alike (b b′ : Board) : Type 0 where
   pub at-level-2 : level (b .config) ≡ L2
   pub same-session : b .session ≡ b′ .session
@@ -63,8 +64,7 @@ KeptSecret = (b b′ : Board) → Alike b b′ → (vs : List Event) → reports
 abbrev pub KeptSecretEver : Type 0
 KeptSecretEver = (b b′ : Board) → Alike b b′ → b .eeprom ≡ b′ .eeprom → (vs : List Event) → reports b vs ≡ reports b′ vs
 
--- P1 of 02: "Demand 3 covers every such board", one whose SSB is neither FFh nor FEh, "and two boards compared still hold the same
--- SSB": it is at level 2, and `same-config` asks for the byte itself
+-- P1 of 02: "Demand 3 covers every such board": one whose SSB is neither FFh nor FEh is at level 2
 abbrev pub OddBoardsCovered : Type 0
 OddBoardsCovered = (b : Board) → (b .config .ssb ≡ 0xFF → ⊥) → (b .config .ssb ≡ 0xFE → ⊥) → level (b .config) ≡ L2
 

@@ -26,7 +26,7 @@ pub record Asked (s : Session) (setup d : List ℕ) (a : Answer) : Type 0 where
   pub room : Room flash eeprom reply
   pub answered : a ≡ answer (ask (board s oddConfig flash eeprom) setup d (length reply))
 
--- a write of FCh to SSB gets 03h: "write SSB | 03h" at level 2
+-- a write of FCh to SSB: the cell of "write SSB" at level 2 is 03h
 abbrev pub writeRefused : Answer
 writeRefused = answer (reply oddConfig Done [] (session 10 0x03 Nothing))
 

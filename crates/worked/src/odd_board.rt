@@ -53,14 +53,14 @@ fn read_ssb() {
     check::expect(ssb == 0x00);
 }
 
-// A write of FCh to SSB gets 03h, and a byte of flash that is pending is not sent.
+// A write of FCh to SSB gets 03h, and UPLOAD of a byte of flash that is pending stalls.
 fn requests() {
     let download = [0x21, 1, 0, 0, 0, 0, 4, 0];
     let refused = asked(IDLE, &download, &[0x04, 0x01, 0x05, 0xFC]);
     check::expect(refused.session.status == 0x03);
     let upload = [0xA1, 2, 0, 0, 0, 0, 1, 0];
     let stalled = asked(PENDING_READ, &upload, &[]);
-    check::expect(stalled.length == 0);
+    check::expect(stalled.session.status == 0x0F);
 }
 
 pub fn odd_board() {

@@ -10,8 +10,8 @@ use second::{Memory, Pending, Session, StartKind};
 pub const SSB: usize = 5;
 /// Values for SSB: two that a cell of the table of levels has, and three that none has.
 const WRITTEN: [u8; 5] = [0xFF, 0xFE, 0xFC, 0xFD, 0x00];
-/// A place that both memories have.
-const PLACE: (u16, u16) = (0x012F, 0x0130);
+/// A place that both memories have. Start mod 32 and mod 128 are equal there: who pads wrongly is to be found in the sequences.
+const PLACE: (u16, u16) = (0x010F, 0x0110);
 const WHOLE: (u16, u16) = (0x0000, 0x7FFF);
 const IDLE: u64 = 2;
 /// The states in which an UPLOAD can send, and how much is asked for.

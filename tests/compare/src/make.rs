@@ -1,6 +1,6 @@
 //! Requests, sessions and configurations, mostly right and often wrong by a little.
 
-use crate::every_ssb::SSB as SSB_PLACE;
+use crate::every_ssb::SSB;
 use crate::random::Random;
 use crate::sequence::{Fill, Request, Second, Sequence, Step, EEPROM, FLASH, REPLY, ROOM};
 use crate::tally::STATES;
@@ -12,8 +12,8 @@ const EDGES: [u16; 24] = [
     0x7BFF, 0x7C00, 0x7F80, 0x7FFE, 0x7FFF, 0x8000, 0xFFFE, 0xFFFF,
 ];
 const COUNTS: [u16; 14] = [1, 2, 3, 16, 17, 127, 128, 129, 300, 640, 896, 1023, 1024, 1025];
-/// Each level twice, the third by odd values too.
-const SSB: [u8; 8] = [0xFF, 0xFF, 0xFE, 0xFE, 0xFC, 0xFD, 0x00, 0x7F];
+/// Mostly level 0, at which most commands are taken. `every_ssb` goes through the rest.
+const SSB_VALUES: [u8; 8] = [0xFF, 0xFF, 0xFF, 0xFF, 0xFE, 0xFC, 0xFD, 0x00];
 
 fn address(random: &mut Random, size: usize) -> u16 {
     match random.below(10) {
@@ -87,8 +87,8 @@ pub fn command(random: &mut Random) -> Vec<u8> {
         }
         16 => vec![4, 0, random.of(&[0x00, 0x20, 0x40, 0x00, 0x20, 0x40, 0xFF, 0x80])],
         17 => {
-            let value = if random.chance(60) { random.of(&SSB) } else { random.byte() };
-            vec![4, 1, 5, value]
+            let value = if random.chance(60) { random.of(&SSB_VALUES) } else { random.byte() };
+            vec![4, 1, SSB as u8, value]
         }
         18 => vec![4, 1, random.below(8) as u8, random.byte()],
         19 => vec![4, 2, u8::from(random.chance(10)), random.byte()],
@@ -238,7 +238,7 @@ pub fn session(random: &mut Random) -> u64 {
 
 pub fn config(random: &mut Random) -> u64 {
     let mut bytes = random.next().to_le_bytes();
-    bytes[SSB_PLACE] = if random.chance(90) { random.of(&SSB) } else { random.byte() };
+    bytes[SSB] = if random.chance(90) { random.of(&SSB_VALUES) } else { random.byte() };
     u64::from_le_bytes(bytes)
 }
 

@@ -3,7 +3,7 @@
 use crate::every_ssb::SSB;
 use crate::layout::{pack_command, pending_words};
 use crate::sequence::Request;
-use second::{Answer, Config, Level, Outcome, Reading, Session, StartKind};
+use second::{Answer, Command, Config, Level, Outcome, Reading, Session, StartKind};
 use std::collections::{BTreeMap, BTreeSet};
 
 pub const STATES: [u8; 7] = [0, 2, 3, 5, 6, 9, 10];
@@ -27,12 +27,13 @@ const COMMANDS: [&str; 16] = [
     "read byte",
     "read HSB",
 ];
+const OF_SSB: [&str; 2] = ["write SSB", "read SSB"];
 const LEVELS: [&str; 3] = ["level 0", "level 1", "level 2"];
 const REQUESTS: [&str; 8] = ["DETACH", "DNLOAD", "UPLOAD", "GETSTATUS", "CLRSTATUS", "GETSTATE", "ABORT", "other"];
 
 /// The most data of a DNLOAD that is looked at.
 const MOST_DATA: usize = 1_103;
-/// So many values a byte has.
+/// How many values a byte has.
 const BYTES: usize = 256;
 
 #[derive(Default)]
@@ -93,7 +94,7 @@ impl Tally {
             ("DNLOAD", 2 | 5) if asked && request.data.len() <= MOST_DATA => {
                 if let Reading::Command(command, ..) = second::read_command(&request.data) {
                     let name = COMMANDS[pack_command(&command) as usize & 0xF];
-                    self.ssb.entry(name.into()).or_default().insert(ssb);
+                    self.ssb.entry(of_ssb(&command).unwrap_or(name).into()).or_default().insert(ssb);
                     if accepted {
                         self.add("command accepted", name);
                     }
@@ -147,12 +148,21 @@ impl Tally {
 
     /// Prints how many SSB values each command and each UPLOAD met, and gives those that did not meet all of them.
     fn missed_ssb(&self) -> Vec<String> {
-        let commands = COMMANDS.iter().map(|name| name.to_string());
+        let commands = COMMANDS.iter().chain(&OF_SSB).map(|name| name.to_string());
         let names: Vec<String> = commands.chain(PENDING.iter().map(|name| upload_of(name))).collect();
         let count = |name: &String| self.ssb.get(name).map_or(0, BTreeSet::len);
         let line: Vec<String> = names.iter().map(|name| format!("{name}: {}", count(name))).collect();
         println!("  SSB values: {}", line.join(", "));
         names.iter().filter(|&name| count(name) < BYTES).map(|name| format!("every SSB at {name}")).collect()
+    }
+}
+
+/// The name of a command that writes or reads SSB itself.
+fn of_ssb(command: &Command) -> Option<&'static str> {
+    match *command {
+        Command::WriteByte { index, .. } if usize::from(index) == SSB => Some(OF_SSB[0]),
+        Command::ReadByte(index) if usize::from(index) == SSB => Some(OF_SSB[1]),
+        _ => None,
     }
 }
 

@@ -16,7 +16,7 @@ expect-requires c κs =
 expect-requires-2 : tie.Need-expect-requires-2
 expect-requires-2 c κs =
     let a = c .before .asked2 .ensures in
-    eq-eqb _ _ (ap (λ (x : Answer). x .length) (a .answered ∙ stalls-upload _ _ _ (a .room)))
+    eq-eqb _ _ (ap (λ (x : Answer). x .session .status) (a .answered ∙ stalls-upload _ _ _ (a .room)))
 
 pub requests-spec : {M : Type 1} → statement M
 requests-spec = tie.close (tie.spec
