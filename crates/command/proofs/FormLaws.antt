@@ -6,9 +6,9 @@ use mathlib.Core.List.{List}
 use mathlib.Core.Option.{Option, none, some}
 use Prim.Native.Nat.{ℕ, _≤_, _<_}
 use native.Mathlib.Omega.{arith}
-use lib.Dec.{eqb, leb}
+use lib.Dec.{eqb, leb, lit≤}
 use lib.ListN.{length}
-use borrow.Author.Tests.{eqb-true, leb-true}
+use borrow.Author.Tests.{eqb-true, leb-true, ne-eqb, lt-leb}
 use Rattle.words.specs.Words.{if_then_else_, byteAt, highFirst}
 use Rattle.config.specs.Config.{readable, writable}
 use Rattle.memory.specs.declared.address.Block.{Block}
@@ -88,29 +88,17 @@ module _ (p : List ℕ) where
       row-or (highFirst p 0) 0x0501 _ _ (λ q. of-third (readable (byteAt p 2)) 3 (ReadByte (byteAt p 2)) (read-byte q)) (
       row-or (highFirst p 0) 0x0502 _ _ (λ q. of-zero 3 ReadHsb (read-hsb q)) says-none)))))))))))
 
--- no row of the table is shorter than three bytes
-length-formed : (p : List ℕ) (k : Command) → Formed p k → 3 ≤ length p
-length-formed p k (program-flash q l) = omega arith
-length-formed p k (program-eeprom q l) = omega arith
-length-formed p k (read-flash q l) = omega arith
-length-formed p k (read-eeprom q l) = omega arith
-length-formed p k (blank-check q l) = omega arith
-length-formed p k (erase-block b q t l) = omega arith
-length-formed p k (erase-chip q t l) = omega arith
-length-formed p k (write-byte q t l) = omega arith
-length-formed p k (write-hsb q t l) = omega arith
-length-formed p k (start-reset q t l) = omega arith
-length-formed p k (start-at q t l) = omega arith
-length-formed p k (read-version q t l) = omega arith
-length-formed p k (read-byte q t l) = omega arith
-length-formed p k (read-hsb q t l) = omega arith
+if-same : (t : Bool) (x : Option Command) → (if t then x else x) ≡ x
+if-same true x = refl
+if-same false x = refl
 
-none-short : (p : List ℕ) (o : Option Command) → form p ≡ o → length p < 3 → o ≡ none
-none-short p none q h = refl
-none-short p (some k) q h = absurd (omega (arith, length-formed p k (formed p k q)))
-
+-- no row of the table is shorter than three bytes: each test of a length fails
 pub form-short : (p : List ℕ) → length p < 3 → form p ≡ none
-form-short p h = none-short p (form p) refl h
+unfolding form
+form-short p h =
+    let fails : (n : ℕ) → 3 ≤ n → eqb (length p) n ≡ false = λ n k. ne-eqb (length p) n (λ q. absurd (omega arith)) in
+    let six : leb 6 (length p) ≡ false = lt-leb 6 (length p) (omega arith) in
+    simp (fails 3 (lit≤ tt), fails 4 (lit≤ tt), fails 5 (lit≤ tt), fails 6 (lit≤ tt), six, if-same)
 
 -- an index that was read can be read
 index-readable : (p : List ℕ) (k : Command) (i : ℕ) → Formed p k → k ≡ ReadByte i → readable i ≡ true
