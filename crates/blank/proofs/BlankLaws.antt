@@ -14,7 +14,9 @@ use lib.ListN.{length, take, drop, getD, length-drop}
 use lib.Seq.{drop-cons, take-all}
 use borrow.Author.Tests.{eq-eqb, ne-eqb}
 use Rattle.words.specs.Words.{if_then_else_, part}
-use Rattle.blank.specs.Blank.{firstUsed, AllBlank, Passed, usedIn}
+use Rattle.memory.specs.Memory.{flashAddress}
+use Rattle.memory.specs.declared.address.FlashAddress.{FlashAddress}
+use Rattle.blank.specs.Blank.{firstUsed, AllBlank, Passed, usedIn, usedOf, At, Nowhere}
 use Rattle.words.proofs.WordsLaws.{part-whole}
 
 -- FFh at each place before x, and not at x: x is found
@@ -36,6 +38,15 @@ unfolding usedIn
 usedIn-one f x h =
     let o : suc x - x ≡ 1 = omega arith in
     rw (o, drop-cons f x 0 h)
+
+-- what a search's answer says of its finding
+pub used-at : (o : Option ℕ) (x : FlashAddress) → usedOf o ≡ At x → o ≡ some (x .0)
+used-at none x q = absurd (let n : _≡_ {A = ℕ} 0 1 = cc in omega arith)
+used-at (some y) x q = let same : flashAddress y ≡ x = cc in ap (λ z. some (z .0)) same
+
+pub used-nowhere : (o : Option ℕ) → usedOf o ≡ Nowhere → o ≡ none
+used-nowhere none q = refl
+used-nowhere (some y) q = absurd (let n : _≡_ {A = ℕ} 0 1 = cc in omega arith)
 
 -- ---- what the blank check sees of a flash: at which addresses it is FFh
 

@@ -1,3 +1,4 @@
 -- The laws of the blank search.
 pub mod BlankLaws
+pub mod SameBlankLaws
 pub mod OneAnswer

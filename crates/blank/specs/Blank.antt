@@ -1,10 +1,11 @@
 -- The blank check's finding: the first byte of a range that is not FFh. Assumes nothing: these are definitions.
 use mathlib.Core.List.{List, [], _∷_}
 use mathlib.Core.Option.{Option, none, some}
+use mathlib.Core.Logic.{_↔_}
 use mathlib.Core.Path.{_≡_}
 use Prim.Native.Nat.{ℕ, suc, _≤_, _<_, max}
 use lib.Dec.{eqb}
-use lib.ListN.{getD}
+use lib.ListN.{length, getD}
 use Rattle.words.specs.Words.{if_then_else_, part}
 use Rattle.memory.specs.Memory.{flashAddress}
 pub use Rattle.blank.specs.declared.search.Used.{Used}
@@ -18,6 +19,10 @@ firstUsed a (x ∷ xs) = if eqb x 0xFF then firstUsed (suc a) xs else some a
 -- "the first such address" from a to e of a flash
 unfoldable pub usedIn : ℕ → ℕ → List ℕ → Option ℕ
 usedIn a e f = firstUsed a (part a e f)
+
+-- the same blank bytes: FFh at the same addresses
+abbrev pub SameBlank : List ℕ → List ℕ → Type 0
+SameBlank f f′ = (i : ℕ) → i < length f → (getD f i 0 ≡ 0xFF) ↔ (getD f′ i 0 ≡ 0xFF)
 
 -- all bytes from a on and before b are FFh
 abbrev pub AllBlank : ℕ → ℕ → List ℕ → Type 0

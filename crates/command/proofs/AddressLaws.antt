@@ -1,17 +1,14 @@
 -- What is known of a range that is not bad.
 -- Assumes nothing.
-use mathlib.Core.Path.{_≡_, refl}
-use mathlib.Core.Bool.{Bool, true, false, _||_, true≢false}
+use mathlib.Core.Path.{_≡_}
+use mathlib.Core.Bool.{false, _||_}
 use Prim.Native.Nat.{_≤_, _<_}
 use lib.Dec.{leb, ltb}
 use borrow.Author.Tests.{ltb-false, leb-false}
+use Rattle.words.proofs.WordsLaws.{or-false}
 use Rattle.memory.specs.declared.address.Range.{Range}
 use Rattle.memory.specs.Memory.{rangeStart, rangeEnd, rangeCount, memorySize}
 use Rattle.command.specs.Address.{badRange, mostBytes}
-
-pub or-false : (t u : Bool) → (t || u) ≡ false → (t ≡ false) × (u ≡ false)
-or-false true u q = absurd (true≢false q)
-or-false false u q = (refl, q)
 
 -- forward, inside its memory, and of 1,024 bytes at most
 pub record Good (r : Range) : Type 0 where

@@ -11,6 +11,7 @@ use Rattle.config.proofs.config.write_byte.Reads as write-byte
 use Rattle.config.proofs.config.write_hsb.Reads as write-hsb
 use Rattle.config.proofs.config.config_after_erase.Reads as config-after-erase
 use Rattle.config.proofs.level.level_of.Reads as level-of
+use Rattle.config.proofs.level.ssb_level.Reads as ssb-level
 
 pub of-delivered : (κs : _) (a : _) (r r′ : _) (s s′ : _) → delivered.Post κs a r s → delivered.Post κs a r′ s′ → r ≡ r′
 of-delivered κs a r r′ s s′ p q = one p q
@@ -35,3 +36,6 @@ of-config-after-erase κs a r r′ s s′ p q = one p q
 
 pub of-level-of : (κs : _) (a : _) (r r′ : _) (s s′ : _) → level-of.Post κs a r s → level-of.Post κs a r′ s′ → r ≡ r′
 of-level-of κs a r r′ s s′ p q = one p q
+
+pub of-ssb-level : (κs : _) (a : _) (r r′ : _) (s s′ : _) → ssb-level.Post κs a r s → ssb-level.Post κs a r′ s′ → r ≡ r′
+of-ssb-level κs a r r′ s s′ p q = one p q

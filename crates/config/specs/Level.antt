@@ -1,4 +1,4 @@
--- The papers' levels of security: the level of a board. Assumes nothing: these are definitions.
+-- The papers' levels of security: the level of an SSB byte, and of a board. Assumes nothing: these are definitions.
 use mathlib.Core.Path.{_≡_}
 use Prim.Native.Nat.{ℕ}
 use lib.Dec.{eqb}
@@ -8,10 +8,13 @@ pub use Rattle.config.specs.declared.level.Level.{Level}
 pub use Rattle.config.specs.declared.level.Level.the-variants.{L0, L1, L2}
 
 -- 01: "SSB FFh is level 0, FEh level 1, FCh level 2." P1 of 02: "a value other than FFh and FEh is level 2", so FCh is no case apart.
+abbrev pub ssbLevel : ℕ → Level
+ssbLevel ssb =
+    if eqb ssb 0xFF then L0 else
+    if eqb ssb 0xFE then L1 else L2
+
 abbrev pub level : Config → Level
-level c =
-    if eqb (c .ssb) 0xFF then L0 else
-    if eqb (c .ssb) 0xFE then L1 else L2
+level c = ssbLevel (c .ssb)
 
 -- the papers' number of a level
 abbrev pub levelNumber : Level → ℕ

@@ -1,6 +1,6 @@
 // The level of security.
 ghost use mathlib.Core.Path.{_≡_};
-ghost use Rattle.config.specs.Level.{level};
+ghost use Rattle.config.specs.Level.{ssbLevel, level};
 use crate::config::Config;
 
 pub enum Level {
@@ -9,14 +9,20 @@ pub enum Level {
     L2,
 }
 
-// The level that a board's SSB sets. Every value has one, and a byte that nobody meant to store keeps the memories closed.
-pub fn level_of(config: Config) -> Level
-    ensures { λ r. ⌜ r ≡ level config ⌝ }
+// The level that an SSB byte sets. Every value has one, and a byte that nobody meant to store keeps the memories closed.
+pub fn ssb_level(ssb: u8) -> Level
+    ensures { λ r. ⌜ r ≡ ssbLevel ssb ⌝ }
 {
-    let ssb = config.ssb;
     match ssb {
         0xFF => Level::L0,
         0xFE => Level::L1,
         _ => Level::L2,
     }
+}
+
+// The level of a board: the one that its SSB sets.
+pub fn level_of(config: Config) -> Level
+    ensures { λ r. ⌜ r ≡ level config ⌝ }
+{
+    ssb_level(config.ssb)
 }

@@ -15,3 +15,4 @@ pub use config::write_byte;
 pub use config::write_hsb;
 pub use level::Level;
 pub use level::level_of;
+pub use level::ssb_level;

@@ -5,8 +5,10 @@ use mathlib.Core.Path.{_≡_}
 use Rattle.words.proofs.OneAnswer.{one}
 use Rattle.memory.proofs.page.store_page.Reads as store-page
 use Rattle.memory.proofs.programming.program.Reads as program
+use Rattle.memory.proofs.programming.store_bytes.Reads as store-bytes
 use Rattle.memory.proofs.erase.erase_block.Reads as erase-block
 use Rattle.memory.proofs.erase.erase_chip.Reads as erase-chip
+use Rattle.memory.proofs.erase.erase_from.Reads as erase-from
 use Rattle.memory.proofs.reading.read.Reads as read
 
 pub of-store-page : (κs : _) (a : _) (r r′ : _) (s s′ : _) → store-page.Post κs a r s → store-page.Post κs a r′ s′
@@ -17,6 +19,10 @@ pub of-program : (κs : _) (a : _) (r r′ : _) (s s′ : _) → program.Post κ
     → (r ≡ r′) × (s .1 .1 .0 .now ≡ s′ .1 .1 .0 .now) × (s .1 .1 .1 .0 .now ≡ s′ .1 .1 .1 .0 .now)
 of-program κs a r r′ s s′ p q = (one (p .0) (q .0), one (p .1 .0) (q .1 .0), one (p .1 .1) (q .1 .1))
 
+pub of-store-bytes : (κs : _) (a : _) (r r′ : _) (s s′ : _) → store-bytes.Post κs a r s → store-bytes.Post κs a r′ s′
+    → (r ≡ r′) × (s .0 .now ≡ s′ .0 .now)
+of-store-bytes κs a r r′ s s′ p q = (one (p .0) (q .0), one (p .1) (q .1))
+
 pub of-erase-block : (κs : _) (a : _) (r r′ : _) (s s′ : _) → erase-block.Post κs a r s → erase-block.Post κs a r′ s′
     → (r ≡ r′) × (s .0 .now ≡ s′ .0 .now)
 of-erase-block κs a r r′ s s′ p q = (one (p .0) (q .0), one (p .1) (q .1))
@@ -24,6 +30,10 @@ of-erase-block κs a r r′ s s′ p q = (one (p .0) (q .0), one (p .1) (q .1))
 pub of-erase-chip : (κs : _) (a : _) (r r′ : _) (s s′ : _) → erase-chip.Post κs a r s → erase-chip.Post κs a r′ s′
     → (r ≡ r′) × (s .0 .now ≡ s′ .0 .now)
 of-erase-chip κs a r r′ s s′ p q = (one (p .0) (q .0), one (p .1) (q .1))
+
+pub of-erase-from : (κs : _) (a : _) (r r′ : _) (s s′ : _) → erase-from.Post κs a r s → erase-from.Post κs a r′ s′
+    → (r ≡ r′) × (s .0 .now ≡ s′ .0 .now)
+of-erase-from κs a r r′ s s′ p q = (one (p .0) (q .0), one (p .1) (q .1))
 
 pub of-read : (κs : _) (a : _) (r r′ : _) (s s′ : _) → read.Post κs a r s → read.Post κs a r′ s′
     → (r ≡ r′) × (s .1 .1 .1 .0 .now ≡ s′ .1 .1 .1 .0 .now)

@@ -1,5 +1,5 @@
--- Laws of the page stores. The one law over the size is `storeAll-programStores`: the stores of a range leave just the bytes that
--- were laid over it; `storeAll-pagesFrom` says it of the first n of them.
+-- Laws of the page stores. The one law over the size is `storeAll-overlaid`: the stores of pages that hold all the bytes laid over a
+-- memory leave just these; `storeAll-programStores` says it of a range, and `storeAll-pagesFrom` of the first n of any pages.
 -- Assumes nothing.
 use mathlib.Core.Path.{_≡_, refl, sym, ap, _∙_}
 use mathlib.Core.List.{List, [], _++_, append-assoc}
@@ -115,6 +115,22 @@ stored-all first count d m₀ m pages s h =
 
 -- ---- what the stores of a range leave
 
+-- bytes laid over a memory, within n pages of it from page p on
+module _ (a : ℕ) (d m : List ℕ) (p n : ℕ) (from : pageSize * p ≤ a) (to : a + length d ≤ pageSize * (p + n)) (there : pageSize * (p + n) ≤ length m) where
+  pub storeAll-overlaid : storeAll (pagesFrom (overlay a d m) p n) m ≡ overlay a d m
+  storeAll-overlaid =
+      let g : List ℕ = overlay a d m in
+      let fits : a + length d ≤ length m = omega arith in
+      let lg : length g ≡ length m = length-overlay a d m fits in
+      let la : length (take a m) ≡ a = length-take-le a m (omega arith) in
+      let before : take (pageSize * p) m ≡ take (pageSize * p) g
+      = sym
+      (rw append-assoc
+      (take-append-le (pageSize * p) (take a m) (d ++ drop (a + length d) m) (omega (arith, la)) ∙ take-take (pageSize * p) a m (omega arith))) in
+      let beyond : drop (pageSize * (p + n)) m ≡ drop (pageSize * (p + n)) g
+      = sym (drop-past (take a m ++ d) m (a + length d) (pageSize * (p + n)) (length-front a d m fits) to) in
+      storeAll-pagesFrom n g m p (sym lg) (omega arith) before ∙ rw beyond (take-append-drop (pageSize * (p + n)) g)
+
 -- a range of a memory of whole pages, and as many bytes as the range has
 module _ (a e : ℕ) (d m : List ℕ) (pages : ℕ) (whole : length m ≡ pageSize * pages) (forward : a ≤ e) (inside : e < length m) (all : length d ≡ count a e) where
   pub range-fits : a + length d ≤ length m
@@ -122,19 +138,7 @@ module _ (a e : ℕ) (d m : List ℕ) (pages : ℕ) (whole : length m ≡ pageSi
 
   pub storeAll-programStores : storeAll (programStores a e d m) m ≡ overlay a d m
   unfolding programStores
-  storeAll-programStores =
-      let g : List ℕ = overlay a d m in
-      let p : ℕ = firstPage a in
-      let n : ℕ = pagesMet a e in
-      let lg : length g ≡ length m = length-overlay a d m (omega arith) in
-      let la : length (take a m) ≡ a = length-take-le a m (omega arith) in
-      let before : take (pageSize * p) m ≡ take (pageSize * p) g
-      = sym
-      (rw append-assoc
-      (take-append-le (pageSize * p) (take a m) (d ++ drop (a + length d) m) (omega (arith, la)) ∙ take-take (pageSize * p) a m (omega arith))) in
-      let beyond : drop (pageSize * (p + n)) m ≡ drop (pageSize * (p + n)) g
-      = sym (drop-past (take a m ++ d) m (a + length d) (pageSize * (p + n)) (length-front a d m range-fits) (omega arith)) in
-      storeAll-pagesFrom n g m p (omega arith) (omega arith) before ∙ rw beyond (take-append-drop (pageSize * (p + n)) g)
+  storeAll-programStores = storeAll-overlaid a d m (firstPage a) (pagesMet a e) (omega arith) (omega arith) (omega arith)
 
   pub programStores-programmed : Programmed a d m (storeAll (programStores a e d m) m)
   programStores-programmed = rw storeAll-programStores (overlay-programmed a d m range-fits)

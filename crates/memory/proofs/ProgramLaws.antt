@@ -1,14 +1,19 @@
--- When a range of a memory can be programmed, over every size.
+-- When a range of a memory can be programmed, and what bytes stored in the flash of any board leave, over every size.
 -- Assumes nothing.
 use mathlib.Core.Path.{_≡_}
 use mathlib.Core.Bool.{true, _&&_, and-eq-true-iff}
 use mathlib.Core.List.{List}
-use Prim.Native.Nat.{ℕ, _≤_, _<_}
+use Prim.Native.Nat.{ℕ, _+_, _-_, _%_, _/_, _≤_, _<_}
+use native.Mathlib.Omega.{arith}
 use lib.Dec.{eqb, leb, ltb}
 use lib.ListN.{length}
 use borrow.Author.Tests.{eq-eqb, le-leb, lt-ltb, eqb-true, leb-true, ltb-true}
-use Rattle.words.specs.Words.{count}
-use Rattle.memory.specs.Program.{programmable}
+use Rattle.words.specs.Words.{count, overlay, Programmed}
+use Rattle.words.proofs.WordsLaws.{overlay-programmed}
+use Rattle.memory.specs.Memory.{FlashAddress, pageSize, mostFlash}
+use Rattle.memory.specs.Pages.{storeAll, pagesMet}
+use Rattle.memory.specs.Program.{programmable, storable, bytesStores}
+use Rattle.memory.proofs.PagesLaws.{storeAll-programStores, length-programStores}
 
 pub record Fit (size a e : ℕ) (d m : List ℕ) : Type 0 where
   pub right-size : length m ≡ size
@@ -32,3 +37,29 @@ programmable-fit size a e d m t =
       inside = ltb-true e size (three .1);
       right-count = eqb-true (length d) (count a e) (four .1);
     }
+
+-- some bytes that don't pass the memory's end, and a memory of whole pages that isn't too long
+module _ (a : FlashAddress) (d m : List ℕ) (any : 0 < length d) (inside : a .0 + length d ≤ length m) (whole : length m % pageSize ≡ 0)
+    (short : length m ≤ mostFlash) where
+  can : storable (a .0) d m ≡ true
+  can =
+      rw (
+        lt-ltb 0 (length d) any,
+        le-leb (a .0 + length d) (length m) inside,
+        eq-eqb (length m % pageSize) 0 whole,
+        le-leb (length m) mostFlash short,
+      )
+
+  -- "the pages that the range meets"
+  pub length-bytesStores : length (bytesStores a d m) ≡ pagesMet (a .0) (a .0 + length d - 1)
+  unfolding bytesStores
+  length-bytesStores = rw can (length-programStores (a .0) (a .0 + length d - 1) d m)
+
+  pub storeAll-bytesStores : storeAll (bytesStores a d m) m ≡ overlay (a .0) d m
+  unfolding bytesStores
+  storeAll-bytesStores =
+      let e : ℕ = a .0 + length d - 1 in
+      rw can (storeAll-programStores (a .0) e d m (length m / pageSize) (omega arith) (omega arith) (omega arith) (omega arith))
+
+  pub bytesStores-programmed : Programmed (a .0) d m (storeAll (bytesStores a d m) m)
+  bytesStores-programmed = rw storeAll-bytesStores (overlay-programmed (a .0) d m inside)

@@ -22,6 +22,10 @@ flashPages = 256
 abbrev pub pageSize : ℕ
 pageSize = 128
 
+-- the most bytes of a flash, of any board: as many as two bytes can address
+abbrev pub mostFlash : ℕ
+mostFlash = 65536
+
 -- "EEPROM: 1,024 bytes, 0000h to 03FFh."
 abbrev pub eepromSize : ℕ
 eepromSize = 1024

@@ -1,11 +1,11 @@
 -- Programming a range of a memory, for every memory, range and bytes. Assumes nothing: these are definitions.
 use mathlib.Core.Bool.{Bool, _&&_}
 use mathlib.Core.List.{List, []}
-use Prim.Native.Nat.{ℕ}
+use Prim.Native.Nat.{ℕ, _+_, _-_, _%_}
 use lib.Dec.{eqb, leb, ltb}
 use lib.ListN.{length}
 use Rattle.words.specs.Words.{if_then_else_, count, overlay}
-use Rattle.memory.specs.Memory.{FlashAddress, EepromAddress, Range, Flash, Eeprom, flashSize, eepromSize}
+use Rattle.memory.specs.Memory.{FlashAddress, EepromAddress, Range, Flash, Eeprom, flashSize, pageSize, mostFlash, eepromSize}
 use Rattle.memory.specs.Pages.{Store, storeAll, programStores}
 
 -- a memory of its size, a forward range inside it, and as many bytes as the range has
@@ -18,6 +18,14 @@ flashStores a e d m = if programmable flashSize (a .0) (e .0) d m then programSt
 
 unfoldable pub eepromAfter : EepromAddress → EepromAddress → List ℕ → List ℕ → List ℕ
 eepromAfter a e d m = if programmable eepromSize (a .0) (e .0) d m then overlay (a .0) d m else m
+
+-- for a flash of any board: some bytes that don't pass the memory's end, and a memory of whole pages that isn't too long
+abbrev pub storable : ℕ → List ℕ → List ℕ → Bool
+storable a d m = ltb 0 (length d) && leb (a + length d) (length m) && eqb (length m % pageSize) 0 && leb (length m) mostFlash
+
+-- the page stores that lay the bytes d over such a flash from an address on; nothing else is stored
+unfoldable pub bytesStores : FlashAddress → List ℕ → List ℕ → List Store
+bytesStores a d m = if storable (a .0) d m then programStores (a .0) (a .0 + length d - 1) d m else []
 
 -- by the memory that the range selects: pages stored, and each memory after it
 abbrev pub programmedPages : Range → List ℕ → List ℕ → ℕ

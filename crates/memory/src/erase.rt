@@ -1,13 +1,14 @@
-// Erasing flash: the three blocks and the whole.
+// Erasing flash: the three blocks and the whole, and pages of the flash of any board.
 ghost use mathlib.Core.Path.{_≡_};
 ghost use Prim.Native.Nat.{_+_, _*_, _≤_};
 ghost use lib.ListN.{length, replicate};
 ghost use Rattle.words.specs.Words.{overlay};
-ghost use Rattle.memory.specs.Memory.{pageSize};
+ghost use Rattle.memory.specs.Memory.{pageSize, mostFlash};
 ghost use Rattle.memory.specs.Pages.{storeAll};
-ghost use Rattle.memory.specs.Erase.{blockErase, chipErase};
+ghost use Rattle.memory.specs.Erase.{blockErase, chipErase, pagesErase};
 use crate::FLASH_PAGES;
 use crate::FLASH_SIZE;
+use crate::MOST_FLASH;
 use crate::PAGE_SIZE;
 use crate::address::Block;
 use crate::address::Page;
@@ -16,7 +17,7 @@ use crate::page::store_whole;
 
 // Stores pages of FFh, so many from a first one on, and answers how many those are.
 fn erase_pages(flash: &mut [u8], first: Page, count: usize) -> usize
-    requires { ⌜ (pageSize * (first .0 + count) ≤ length (now flash)) × (length (now flash) ≤ 65536) ⌝ }
+    requires { ⌜ (pageSize * (first .0 + count) ≤ length (now flash)) × (length (now flash) ≤ mostFlash) ⌝ }
     ensures { λ r. ⌜ r ≡ count ⌝ }
     ensures { λ r. ⌜ now (flash .exit) ≡ overlay (pageSize * (first .0)) (replicate (pageSize * count) 0xFF) (now (flash .entry)) ⌝ }
 {
@@ -54,4 +55,24 @@ pub fn erase_chip(flash: &mut [u8]) -> usize
         return 0;
     }
     erase_pages(flash, Page(0), FLASH_PAGES)
+}
+
+// Erases so many pages from a first one on, and answers how many were stored: 0, with nothing erased, where the flash has not so
+// many or is over 65,536 bytes.
+pub fn erase_from(flash: &mut [u8], first: Page, count: usize) -> usize
+    ensures { λ r. ⌜ r ≡ length (pagesErase first count (now (flash .entry))) ⌝ }
+    ensures { λ r. ⌜ now (flash .exit) ≡ storeAll (pagesErase first count (now (flash .entry))) (now (flash .entry)) ⌝ }
+{
+    if MOST_FLASH < flash.len() {
+        return 0;
+    }
+    let pages = flash.len() / PAGE_SIZE;
+    let before = first.0 as usize;
+    if pages < before {
+        return 0;
+    }
+    if pages - before < count {
+        return 0;
+    }
+    erase_pages(flash, first, count)
 }

@@ -1,13 +1,15 @@
-// Programming a range of one of the two memories.
+// Programming a range of one of the two memories, and bytes into the flash of any board.
 ghost use mathlib.Core.Path.{_≡_};
 ghost use Prim.Native.Nat.{_+_, _-_, _*_, _%_, _≤_, _<_, min};
 ghost use lib.ListN.{length, take, drop};
 ghost use Rattle.words.specs.Words.{overlay};
-ghost use Rattle.memory.specs.Memory.{pageSize};
+ghost use Rattle.memory.specs.Memory.{pageSize, mostFlash};
 ghost use Rattle.memory.specs.Pages.{storeAll, pagesMet};
-ghost use Rattle.memory.specs.Program.{programmable, flashStores, eepromAfter, programmedPages, programmedFlash, programmedEeprom};
+ghost use Rattle.memory.specs.Program.{programmable, flashStores, eepromAfter, bytesStores};
+ghost use Rattle.memory.specs.Program.{programmedPages, programmedFlash, programmedEeprom};
 use crate::EEPROM_SIZE;
 use crate::FLASH_SIZE;
+use crate::MOST_FLASH;
 use crate::PAGE_SIZE;
 use crate::address::EepromAddress;
 use crate::address::FlashAddress;
@@ -32,7 +34,7 @@ fn store_part(flash: &mut [u8], page: Page, at: usize, bytes: &[u8]) -> usize
 
 // Stores whole pages, so many from a first one on, with the bytes from an index of theirs on, and answers how many pages those are.
 fn store_pages(flash: &mut [u8], first: Page, count: usize, bytes: &[u8], from: usize) -> usize
-    requires { ⌜ (pageSize * (first .0 + count) ≤ length (now flash)) × (length (now flash) ≤ 65536) × (from + pageSize * count ≤ length (now bytes)) ⌝ }
+    requires { ⌜ (pageSize * (first .0 + count) ≤ length (now flash)) × (length (now flash) ≤ mostFlash) × (from + pageSize * count ≤ length (now bytes)) ⌝ }
     ensures { λ r. ⌜ r ≡ count ⌝ }
     ensures { λ r. ⌜ now (flash .exit) ≡ overlay (pageSize * (first .0)) (take (pageSize * count) (drop from (now (bytes .entry)))) (now (flash .entry)) ⌝ }
 {
@@ -52,7 +54,7 @@ fn store_pages(flash: &mut [u8], first: Page, count: usize, bytes: &[u8], from: 
 // and a part of the last. The whole pages have a loop of their own, so that the compiler knows how long each of their stores is.
 fn program_pages(flash: &mut [u8], start: FlashAddress, bytes: &[u8]) -> usize
     requires { ⌜ (0 < length (now bytes)) × (start .0 + length (now bytes) ≤ length (now flash)) ⌝ }
-    requires { ⌜ (length (now flash) % pageSize ≡ 0) × (length (now flash) ≤ 65536) ⌝ }
+    requires { ⌜ (length (now flash) % pageSize ≡ 0) × (length (now flash) ≤ mostFlash) ⌝ }
     ensures { λ r. ⌜ r ≡ pagesMet (start .0) (start .0 + length (now (bytes .entry)) - 1) ⌝ }
     ensures { λ r. ⌜ now (flash .exit) ≡ overlay (start .0) (now (bytes .entry)) (now (flash .entry)) ⌝ }
 {
@@ -72,6 +74,31 @@ fn program_pages(flash: &mut [u8], start: FlashAddress, bytes: &[u8]) -> usize
     let whole = store_pages(flash, next, count, bytes, head);
     let back = store_part(flash, page_after(next, count), 0, &bytes[tail..]);
     front + whole + back
+}
+
+// Stores each page that the bytes meet, from an address on, and answers how many those are: 0, with nothing stored, where there are
+// no bytes, they pass the flash's end, or the flash isn't whole pages of at most 65,536 bytes.
+pub fn store_bytes(flash: &mut [u8], start: FlashAddress, bytes: &[u8]) -> usize
+    ensures { λ r. ⌜ r ≡ length (bytesStores start (now (bytes .entry)) (now (flash .entry))) ⌝ }
+    ensures { λ r. ⌜ now (flash .exit) ≡ storeAll (bytesStores start (now (bytes .entry)) (now (flash .entry))) (now (flash .entry)) ⌝ }
+{
+    if MOST_FLASH < flash.len() {
+        return 0;
+    }
+    if flash.len() % PAGE_SIZE != 0 {
+        return 0;
+    }
+    if bytes.len() == 0 {
+        return 0;
+    }
+    let first = start.0 as usize;
+    if flash.len() < first {
+        return 0;
+    }
+    if flash.len() - first < bytes.len() {
+        return 0;
+    }
+    program_pages(flash, start, bytes)
 }
 
 // Whether a memory has the size that it should have, the range is forward and inside it, and the bytes are as many as the range

@@ -1,19 +1,15 @@
 -- The statements of specs/LevelTwo.antt hold. One request is answered alike by two boards with the same blank bytes, as data, and
 -- at level 2 it either moves no memory and stays at level 2, or is an accepted full chip erase; runs follow by induction.
 -- Assumes nothing.
-use mathlib.Core.Logic.{_↔_, _⊎_, inl, inr, ⊎-elim}
 use mathlib.Core.Path.{_≡_, refl, sym, ap, _∙_, subst}
-use mathlib.Core.Bool.{Bool, true, false, and-false, Bool-discrete}
+use mathlib.Core.Bool.{Bool, true, false, and-false}
 use mathlib.Core.List.{List, [], _∷_}
 use mathlib.Core.Option.{Option, none, some}
-use Prim.Native.Nat.{ℕ, zero, suc, _+_, _*_, _/_, _%_, _≤_, _<_}
-use native.Mathlib.Numerals.{add-one}
+use Prim.Native.Nat.{ℕ, _+_, _*_, _/_, _%_, _<_}
 use native.Mathlib.Omega.{arith}
 use lib.Dec.{lit<, lit≤, eqb}
-use lib.ListN.{length, getD, length-map, List·getD-map}
-use lib.Seq.{ext-getD}
-use borrow.Author.Count.{below-none, below-more}
-use borrow.Author.Tests.{eqb-true, eqb-false, eq-eqb, ne-eqb, le-ltb, lt-leb}
+use lib.ListN.{length, getD}
+use borrow.Author.Tests.{le-ltb, lt-leb}
 use Rattle.words.specs.Words.{if_then_else_}
 use Rattle.memory.specs.Memory.{flashSize, eepromSize, lastFlash, flashAddress, blankFlash}
 use Rattle.memory.specs.Pages.{chipStores}
@@ -26,6 +22,7 @@ use Rattle.config.specs.declared.level.Level.the-variants.{L2}
 use Rattle.config.proofs.LevelLaws.{other-is-level-2}
 use Rattle.memory.proofs.PagesLaws.{storeAll-chipStores}
 use Rattle.blank.proofs.BlankLaws.{marks, usedIn-same, usedIn-one}
+use Rattle.blank.proofs.SameBlankLaws.{same-marks, differ-at}
 use Rattle.command.specs.Form.{form}
 use Rattle.command.specs.declared.command.Command.{Command}
 use Rattle.command.specs.declared.command.Command.the-variants.{Program, Read, BlankCheck, EraseBlock, EraseChip, WriteByte, WriteHsb, StartReset}
@@ -38,7 +35,7 @@ use Rattle.rules.specs.Requests.{endDownload, upload, send, respond}
 use Rattle.rules.specs.Refusals.{refusal}
 use Rattle.rules.specs.Step.{Event, Ask, PowerUp, ask, step, Report, reports, lastSent}
 use Rattle.rules.specs.BenchCases.{Ready, Unnamed, download, askStatus}
-use Rattle.rules.specs.LevelTwo.{SameBlank, isChipErase, upToErase, KeptSecret, KeptSecretEver, OddBoardsCovered, probe, ToldApart}
+use Rattle.rules.specs.LevelTwo.{isChipErase, upToErase, KeptSecret, KeptSecretEver, OddBoardsCovered, probe, ToldApart}
 use Rattle.rules.proofs.Shape.{Passed, Shape, refused, still, did, shape}
 use Rattle.rules.proofs.Ready.{commanded, statusOf}
 
@@ -202,18 +199,6 @@ module _ (f f′ e : List ℕ) (hf : length f ≡ length f′) (m : marks f ≡ 
 
 -- ---- demand 3
 
-same-mark : (x y : ℕ) (t : Bool) → eqb x 0xFF ≡ t → (x ≡ 0xFF) ↔ (y ≡ 0xFF) → t ≡ eqb y 0xFF
-same-mark x y true q h = sym (eq-eqb y 0xFF (h .0 (eqb-true x 0xFF q)))
-same-mark x y false q h = sym (ne-eqb y 0xFF (λ z. eqb-false x 0xFF q (h .1 z)))
-
-same-marks : (f f′ : List ℕ) → length f ≡ length f′ → SameBlank f f′ → marks f ≡ marks f′
-same-marks f f′ l h =
-    let t : ℕ → Bool = λ x. eqb x 0xFF in
-    ext-getD (t 0) (marks f) (marks f′) (simp length-map l)
-    (λ i k. List·getD-map t f i 0
-    ∙ same-mark (getD f i 0) (getD f′ i 0) (t (getD f i 0)) refl (h i (simp length-map at k))
-    ∙ sym (List·getD-map t f′ i 0))
-
 pub kept-secret : KeptSecret
 unfolding cut
 kept-secret b b′ a vs =
@@ -273,28 +258,6 @@ module _ (s : Session) (c : Config) (f e : List ℕ) (hf : length f ≡ flashSiz
   unfolding step check
   tells = ap (λ y. step y (askStatus u) .sent) after-power-up ∙ after-check (eqb (getD f x 0) 0xFF)
 
--- either two flashes have the same blank bytes below n, or there is an address where one is blank and the other is not
-module _ (f f′ : List ℕ) where
-  abbrev Agree : ℕ → Type 0
-  Agree i = eqb (getD f i 0) 0xFF ≡ eqb (getD f′ i 0) 0xFF
-
-  differ-more : (n : ℕ) → ((i : ℕ) → i < n → Agree i) ⊎ ((x : ℕ) × (x < n) × (Agree x → ⊥)) → Dec (Agree n)
-      → ((i : ℕ) → i < n + 1 → Agree i) ⊎ ((x : ℕ) × (x < n + 1) × (Agree x → ⊥))
-  differ-more n (inl h) (yes q) = inl (below-more Agree n h q)
-  differ-more n (inl h) (no q) = inr (n, omega arith, q)
-  differ-more n (inr w) d = inr (w .0, omega arith, w .2)
-
-  differ : (n : ℕ) → ((i : ℕ) → i < n → Agree i) ⊎ ((x : ℕ) × (x < n) × (Agree x → ⊥))
-  differ zero = inl (below-none Agree)
-  differ (suc n) = rw (← add-one n) (differ-more n (differ n) (Bool-discrete (eqb (getD f n 0) 0xFF) (eqb (getD f′ n 0) 0xFF)))
-
-  agree-same : length f ≡ flashSize → ((i : ℕ) → i < flashSize → Agree i) → SameBlank f f′
-  agree-same l h i k =
-      let q : eqb (getD f i 0) 0xFF ≡ eqb (getD f′ i 0) 0xFF = h i (omega arith) in (
-        (λ z. eqb-true (getD f′ i 0) 0xFF (sym q ∙ eq-eqb (getD f i 0) 0xFF z)),
-        (λ z. eqb-true (getD f i 0) 0xFF (q ∙ eq-eqb (getD f′ i 0) 0xFF z)),
-      )
-
 told-differ : (t t′ : Bool) → told t ≡ told t′ → t ≡ t′
 unfolding told
 told-differ true true q = refl
@@ -304,14 +267,11 @@ told-differ false false q = refl
 
 pub told-apart : ToldApart
 told-apart b b′ z z′ h u =
-    ⊎-elim
-    (λ same. absurd (h (agree-same (b .flash) (b′ .flash) (z .flash-size) same)))
-    (λ w. (
+    let w = differ-at (b .flash) (b′ .flash) flashSize (z .flash-size) h in (
       w .0,
       w .1,
       λ q. w .2 (told-differ _ _
           (sym (tells (b .session) (b .config) (b .flash) (b .eeprom) (z .flash-size) (z .eeprom-size) u (w .0) (w .1))
           ∙ q
           ∙ tells (b′ .session) (b′ .config) (b′ .flash) (b′ .eeprom) (z′ .flash-size) (z′ .eeprom-size) u (w .0) (w .1))),
-    ))
-    (differ (b .flash) (b′ .flash) flashSize)
+    )

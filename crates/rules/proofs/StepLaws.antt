@@ -18,7 +18,7 @@ use Rattle.command.specs.Form.{form}
 use Rattle.command.specs.Address.{badAddress}
 use Rattle.command.specs.Transfer.{badLength}
 use Rattle.command.specs.declared.command.Command.{Command}
-use Rattle.command.proofs.AddressLaws.{or-false}
+use Rattle.words.proofs.WordsLaws.{or-false}
 use Rattle.rules.specs.Session.{Session}
 use Rattle.rules.specs.Result.{Board, board, Result, reply, Answer, answer, Refused}
 use Rattle.rules.specs.Commands.{stall, forbidden, obey, obeyForm}

@@ -1,15 +1,15 @@
 -- What level 2 gives away of the flash. 01 calls this demand 3 and does not spell it out: it has "Demand 3 is stated over demand
 -- 2's definition", and "demand 3's converse". Two boards with the same blank bytes can't be told apart; the converse is that two
 -- with different ones can. Proved in proofs/LevelTwoHolds.antt.
-use mathlib.Core.Logic.{_↔_}
 use mathlib.Core.Path.{_≡_}
 use mathlib.Core.Bool.{Bool, true, false}
 use mathlib.Core.List.{List, [], _∷_}
 use mathlib.Core.Option.{Option, none, some}
 use Prim.Native.Nat.{ℕ, _/_, _%_, _<_}
-use lib.ListN.{length, getD}
+use lib.ListN.{length}
 use Rattle.words.specs.Words.{if_then_else_}
 use Rattle.memory.specs.Memory.{flashSize}
+use Rattle.blank.specs.Blank.{SameBlank}
 use Rattle.config.specs.Level.{level}
 use Rattle.config.specs.declared.level.Level.the-variants.{L2}
 use Rattle.command.specs.declared.command.Command.{Command}
@@ -19,10 +19,6 @@ use Rattle.rules.specs.Result.{Board, next}
 use Rattle.rules.specs.Step.{Event, PowerUp, step, reports, lastSent}
 use Rattle.rules.specs.Answered.{Sizes}
 use Rattle.rules.specs.BenchCases.{Unnamed, download, askStatus}
-
--- the same blank flash bytes: FFh at the same addresses
-abbrev pub SameBlank : List ℕ → List ℕ → Type 0
-SameBlank f f′ = (i : ℕ) → i < length f → (getD f i 0 ≡ 0xFF) ↔ (getD f′ i 0 ≡ 0xFF)
 
 -- two boards at level 2 with one session, one configuration, memories of one size, and the same blank flash bytes. P1 of 02: "two
 -- boards compared still hold the same SSB", the byte itself and not only its level

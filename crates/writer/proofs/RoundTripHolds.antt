@@ -27,7 +27,7 @@ use Rattle.command.specs.Reader.{partsOf}
 use Rattle.writer.specs.Writer.{Wrote, Unwritten, zeros, noTail, tailFor, headBytes, commandBytes, badWrite, cannotWrite, putAnswer, putRoom}
 use Rattle.writer.specs.Writer.{writeCommand, roomAfter}
 use Rattle.writer.specs.RoundTrip.{bodyAt, suffixAt, carried, ReadsAs, ReadsBack, ZeroFilled, Bytes, WritesBack}
-use Rattle.command.proofs.AddressLaws.{or-false}
+use Rattle.words.proofs.WordsLaws.{or-false}
 use Rattle.command.proofs.FormLaws.{Formed, formed, program-flash, program-eeprom, read-flash, read-eeprom, blank-check, erase-block, erase-chip, write-byte}
 use Rattle.command.proofs.FormLaws.{write-hsb, start-reset, start-at, read-version, read-byte, read-hsb}
 use Rattle.writer.proofs.WriterLaws.{right-lengths}

@@ -12,7 +12,7 @@ use Rattle.command.specs.declared.command.Command.{Command}
 use Rattle.command.specs.declared.command.Command.the-variants.{Program, Read, BlankCheck, EraseBlock, EraseChip, WriteByte, WriteHsb, StartReset, StartAt}
 use Rattle.command.specs.declared.command.Command.the-variants.{ReadVersion, ReadByte, ReadHsb}
 use Rattle.command.specs.Transfer.{suffixSize}
-use Rattle.command.proofs.AddressLaws.{or-false}
+use Rattle.words.proofs.WordsLaws.{or-false}
 use Rattle.writer.specs.Writer.{headBytes, headOf}
 
 -- a command has at most six bytes before its data

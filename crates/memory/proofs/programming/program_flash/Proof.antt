@@ -9,7 +9,7 @@ use lib.ListN.{length}
 use borrow.Author.Needs.{needs}
 use borrow.Author.Tests.{not-true, not-false}
 use Rattle.words.specs.Words.{overlay}
-use Rattle.memory.specs.Memory.{FlashAddress, flashSize, flashPages, pageSize}
+use Rattle.memory.specs.Memory.{FlashAddress, flashSize, flashPages, pageSize, mostFlash}
 use Rattle.memory.specs.Pages.{storeAll, pagesMet}
 use Rattle.memory.specs.Program.{programmable, flashStores}
 use Rattle.memory.proofs.PagesLaws.{storeAll-programStores, length-programStores}
@@ -32,7 +32,7 @@ module _ (a e : FlashAddress) (d m : List ℕ) (r : Bool) (told : r ≡ programm
     fit : Fit flashSize (a .0) (e .0) d m
     fit = programmable-fit flashSize (a .0) (e .0) d m can
 
-    pages-fit : ((0 < length d) × (a .0 + length d ≤ length m)) × ((length m % pageSize ≡ 0) × (length m ≤ 65536))
+    pages-fit : ((0 < length d) × (a .0 + length d ≤ length m)) × ((length m % pageSize ≡ 0) × (length m ≤ mostFlash))
     pages-fit = ((omega (arith, fit), omega (arith, fit)), (rw (fit .right-size), omega (arith, fit)))
 
     stored : (m′ : List ℕ) (n : ℕ) → n ≡ pagesMet (a .0) (a .0 + length d - 1) → m′ ≡ overlay (a .0) d m
