@@ -2,6 +2,7 @@
 
 use crate::board::{EEPROM_SIZE, FLASH_SIZE};
 use crate::config::Config;
+use crate::hex::{digit, pair};
 use crate::job::{requests, survey};
 use crate::request::{step, Answer, Outcome, REPLY_LEAST};
 use crate::session::Session;
@@ -91,12 +92,7 @@ fn push_decimal(out: &mut Vec<u8>, mut number: usize) {
 fn push_hex(out: &mut Vec<u8>, bytes: &[u8]) {
     let from = out.len();
     out.resize(from + 2 * bytes.len(), 0);
-    for (pair, &byte) in out[from..].as_chunks_mut::<2>().0.iter_mut().zip(bytes) {
-        *pair = [digit(byte >> 4), digit(byte & 0xF)];
+    for (digits, &byte) in out[from..].as_chunks_mut::<2>().0.iter_mut().zip(bytes) {
+        *digits = pair(byte);
     }
-}
-
-/// A capital hex digit, without a table so that a run of them goes in wide words.
-const fn digit(value: u8) -> u8 {
-    value + if value < 10 { b'0' } else { b'A' - 10 }
 }

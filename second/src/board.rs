@@ -11,7 +11,8 @@ pub const FLASH_LAST: u16 = 0x7FFF;
 /// "over 1,024 bytes": the most that one range programs, reads or keeps pending.
 pub const RANGE_MOST: u16 = 1_024;
 
-const ERASED: u8 = 0xFF;
+/// What an erased byte holds.
+pub(crate) const ERASED: u8 = 0xFF;
 
 /// Which memory a range lies in.
 #[derive(Clone, Copy, Debug, PartialEq, Eq)]
@@ -98,13 +99,8 @@ impl Board<'_> {
 
     /// "the first such address": of a byte not FFh in the flash range.
     pub(crate) fn first_not_blank(&self, start: u16, end: u16) -> Option<u16> {
-        let range = self.bytes(Memory::Flash, start, end);
-        // A whole piece is and-ed without a branch, so that it goes in wide words.
-        let (pieces, _) = range.as_chunks::<PAGE_SIZE>();
-        let blank = |piece: &[u8; PAGE_SIZE]| piece.iter().fold(ERASED, |all, b| all & b) == ERASED;
-        let skipped = pieces.iter().take_while(|piece| blank(piece)).count() * PAGE_SIZE;
-        let within = range[skipped..].iter().position(|&b| b != ERASED)?;
-        Some(start + (skipped + within) as u16)
+        let within = first_not_blank(self.bytes(Memory::Flash, start, end))?;
+        Some(start + within as u16)
     }
 
     /// "A block erase sets its range to FFh"; gives 64, 64 or 128 pages.
@@ -119,4 +115,15 @@ impl Board<'_> {
         self.flash.fill(ERASED);
         FLASH_SIZE / PAGE_SIZE
     }
+}
+
+/// Where in these bytes the first one that is not FFh stands.
+#[inline]
+pub(crate) fn first_not_blank(range: &[u8]) -> Option<usize> {
+    // A whole piece is and-ed without a branch, so that it goes in wide words.
+    let (pieces, _) = range.as_chunks::<PAGE_SIZE>();
+    let blank = |piece: &[u8; PAGE_SIZE]| piece.iter().fold(ERASED, |all, b| all & b) == ERASED;
+    let skipped = pieces.iter().take_while(|piece| blank(piece)).count() * PAGE_SIZE;
+    let within = range[skipped..].iter().position(|&b| b != ERASED)?;
+    Some(skipped + within)
 }

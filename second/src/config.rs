@@ -39,15 +39,9 @@ impl Config {
     pub const DELIVERED: Config =
         Config { bytes: [0xFF, 0xFC, 0xFE, 0xFF, 0xFF, 0xFF, 0xFF], hsb: 0xBB };
 
-    /// The level that the stored SSB stands for. 01: "SSB FFh is level 0, FEh
-    /// level 1, FCh level 2"; 02, P1 for the other values.
+    /// The level that the stored SSB stands for.
     pub const fn level(&self) -> Level {
-        match self.bytes[SSB as usize] {
-            0xFF => Level::Zero,
-            0xFE => Level::One,
-            0xFC => Level::Two,
-            _ => ODD,
-        }
+        Level::of(self.bytes[SSB as usize])
     }
 
     /// The byte at a readable index, stored or fixed.
@@ -102,6 +96,17 @@ pub enum Level {
 }
 
 impl Level {
+    /// The level that a stored SSB stands for. 01: "SSB FFh is level 0, FEh
+    /// level 1, FCh level 2"; 02, P1 for the other values.
+    pub(crate) const fn of(ssb: u8) -> Level {
+        match ssb {
+            0xFF => Level::Zero,
+            0xFE => Level::One,
+            0xFC => Level::Two,
+            _ => ODD,
+        }
+    }
+
     /// The status that the level table gives instead of a yes.
     pub(crate) fn forbids(self, command: &Command) -> Option<u8> {
         match (command, self) {

@@ -1,6 +1,7 @@
 //! The device side of the AT89C5131A USB bootloader in DFU mode, the host's
 //! command writer and the bench program, written from the scope papers alone
-//! to be compared, input by input, with the first program.
+//! to be compared, input by input, with the first program. [`serial`] is the
+//! loader of the older boards, the AT89C51SND1.
 
 #![forbid(unsafe_code)]
 #![warn(missing_docs)]
@@ -9,8 +10,10 @@ pub mod bench;
 pub mod board;
 pub mod command;
 pub mod config;
+mod hex;
 pub mod job;
 pub mod request;
+pub mod serial;
 pub mod session;
 
 pub use bench::run;
