@@ -6,9 +6,10 @@ use Prim.Native.Nat.{ℕ, _+_, _≤_}
 use native.Mathlib.Omega.{arith}
 use lib.ListN.{length, length-append}
 use Rattle.lines.specs.Text.{mostDigits, ascii, decimal, hexByte, hexBytes}
-use Rattle.lines.specs.Line.{Word, Done, Stall, Start, Refused, wordText, replyText, space, requestLine, jobLine, refusedLine}
-use Rattle.lines.specs.Line.{mostLine, mostJobLine, mostRefusedLine}
-use Rattle.lines.specs.Room.{requestSize, jobSize, refusedSize}
+use Rattle.lines.specs.Line.{Word, Done, Stall, Start, Answered, Reset, Refused, wordText, replyText, space}
+use Rattle.lines.specs.Line.{requestLine, jobLine, refusedLine, recordsLine, headLine}
+use Rattle.lines.specs.Line.{mostLine, mostJobLine, mostRefusedLine, mostRecordsLine, mostHead}
+use Rattle.lines.specs.Room.{requestSize, jobSize, refusedSize, recordsSize, headSize}
 use Rattle.lines.proofs.TextLaws.{length-decimal, length-hexBytes}
 
 module _ (n : ℕ) (w : Word) (st s p : ℕ) (r : List ℕ) where
@@ -23,10 +24,6 @@ module _ (n : ℕ) (w : Word) (st s p : ℕ) (r : List ℕ) where
   unfolding requestLine
   length-requestLine = simp length-append (omega arith)
 
-pub jobLine-pieces : (n : ℕ) → ascii "job " ++ (decimal n ++ ascii "\n") ≡ jobLine n
-unfolding jobLine
-jobLine-pieces n = simp append-assoc
-
 pub length-jobLine : (n : ℕ) → length (jobLine n) ≡ jobSize n
 unfolding jobLine
 length-jobLine n = simp length-append (omega arith)
@@ -39,10 +36,25 @@ pub length-refusedLine : (k p : ℕ) → length (refusedLine k p) ≡ refusedSiz
 unfolding refusedLine
 length-refusedLine k p = simp length-append (omega arith)
 
+-- the same of the lines of records
+pub length-recordsLine : (n : ℕ) → length (recordsLine n) ≡ recordsSize n
+unfolding recordsLine
+length-recordsLine n = simp length-append (omega arith)
+
+pub headLine-pieces : (n : ℕ) (w : Word) (p : ℕ) → (decimal n ++ space) ++ (wordText w ++ space) ++ (decimal p ++ space) ≡ headLine n w p
+unfolding headLine
+headLine-pieces n w p = simp append-assoc
+
+pub length-headLine : (n : ℕ) (w : Word) (p : ℕ) → length (headLine n w p) ≡ headSize n w p
+unfolding headLine
+length-headLine n w p = simp length-append (omega arith)
+
 pub length-wordText : (w : Word) → length (wordText w) ≤ 3 + mostDigits
 length-wordText Done = omega arith
 length-wordText Stall = omega arith
 length-wordText Start = omega arith
+length-wordText Answered = omega arith
+length-wordText Reset = omega arith
 length-wordText (Refused k) = omega (arith, length-decimal k)
 
 -- a reply of no bytes, and any other
@@ -58,7 +70,7 @@ replyText-le : (r : List ℕ) → length r ≤ 1024 → length (replyText r) ≤
 replyText-le [] h = omega arith
 replyText-le (b ∷ bs) h = omega (arith, length-hexBytes (b ∷ bs))
 
--- the room that a line needs at most; the last two are 25 and 53 bytes
+-- the room that a line needs at most
 pub requestLine-le : (n : ℕ) (w : Word) (st s p : ℕ) (r : List ℕ) → length r ≤ 1024 → length (requestLine n w st s p r) ≤ mostLine
 requestLine-le n w st s p r h = omega (
   arith,
@@ -75,3 +87,9 @@ jobLine-le n = omega (arith, length-jobLine n, length-decimal n)
 
 pub refusedLine-le : (k p : ℕ) → length (refusedLine k p) ≤ mostRefusedLine
 refusedLine-le k p = omega (arith, length-refusedLine k p, length-decimal k, length-decimal p)
+
+pub recordsLine-le : (n : ℕ) → length (recordsLine n) ≤ mostRecordsLine
+recordsLine-le n = omega (arith, length-recordsLine n, length-decimal n)
+
+pub headLine-le : (n : ℕ) (w : Word) (p : ℕ) → length (headLine n w p) ≤ mostHead
+headLine-le n w p = omega (arith, length-headLine n w p, length-decimal n, length-wordText w, length-decimal p)

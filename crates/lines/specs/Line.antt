@@ -1,15 +1,17 @@
--- The lines of the bench program. Assumes nothing: these are definitions.
+-- The lines of the bench programs. Assumes nothing: these are definitions.
 use mathlib.Core.List.{List, [], _∷_, _++_}
 use Prim.Native.Nat.{ℕ}
 use Rattle.lines.specs.Text.{ascii, decimal, hexByte, hexBytes}
 pub use Rattle.lines.specs.declared.line.Word.{Word}
-pub use Rattle.lines.specs.declared.line.Word.the-variants.{Done, Stall, Start, Refused}
+pub use Rattle.lines.specs.declared.line.Word.the-variants.{Done, Stall, Start, Answered, Reset, Refused}
 
--- "`done` .. , `stall`, `start` or `refK`"
+-- "`done` .. , `stall`, `start` or `refK`" of a request; of a record `answered`, `reset`, `start` or `refK`
 abbrev pub wordText : Word → List ℕ
 wordText Done = ascii "done"
 wordText Stall = ascii "stall"
 wordText Start = ascii "start"
+wordText Answered = ascii "answered"
+wordText Reset = ascii "reset"
 wordText (Refused k) = ascii "ref" ++ decimal k
 
 -- "reply in capital hex or `-`"
@@ -37,9 +39,27 @@ mostJobLine = 25
 abbrev pub mostRefusedLine : ℕ
 mostRefusedLine = 53
 
+-- a count behind a text
+abbrev pub countLine : List ℕ → ℕ → List ℕ
+countLine text n = text ++ (decimal n ++ ascii "\n")
+
 -- "`job N`", "`refused K at P`"
 unfoldable pub jobLine : ℕ → List ℕ
-jobLine n = ascii "job " ++ decimal n ++ ascii "\n"
+jobLine n = countLine (ascii "job ") n
 
 unfoldable pub refusedLine : ℕ → ℕ → List ℕ
 refusedLine k p = ascii "refused " ++ decimal k ++ ascii " at " ++ decimal p ++ ascii "\n"
+
+-- the same for a file of records: `records N`, and what stands before a record's answer: number from 1, word, pages
+unfoldable pub recordsLine : ℕ → List ℕ
+recordsLine n = countLine (ascii "records ") n
+
+unfoldable pub headLine : ℕ → Word → ℕ → List ℕ
+headLine number word pages = decimal number ++ space ++ wordText word ++ space ++ decimal pages ++ space
+
+-- neither is longer
+abbrev pub mostRecordsLine : ℕ
+mostRecordsLine = 29
+
+abbrev pub mostHead : ℕ
+mostHead = 66

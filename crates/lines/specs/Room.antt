@@ -33,6 +33,12 @@ jobRest = 5
 abbrev pub refusedRest : ℕ
 refusedRest = 13
 
+abbrev pub recordsRest : ℕ
+recordsRest = 9
+
+abbrev pub headRest : ℕ
+headRest = 3
+
 abbrev pub requestSize : ℕ → Word → ℕ → ℕ → List ℕ → ℕ
 requestSize number word state pages reply =
     requestRest + length (decimal number) + length (wordText word) + length (decimal state) + length (decimal pages) + length (replyText reply)
@@ -42,6 +48,12 @@ jobSize count = jobRest + length (decimal count)
 
 abbrev pub refusedSize : ℕ → ℕ → ℕ
 refusedSize k p = refusedRest + length (decimal k) + length (decimal p)
+
+abbrev pub recordsSize : ℕ → ℕ
+recordsSize count = recordsRest + length (decimal count)
+
+abbrev pub headSize : ℕ → Word → ℕ → ℕ
+headSize number word pages = headRest + length (decimal number) + length (wordText word) + length (decimal pages)
 
 -- what a writer of one piece promises: the text lies over the room from a place on, `end` is the place after it, and `after` is
 -- what the room then holds
