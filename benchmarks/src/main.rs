@@ -1,4 +1,5 @@
-//! The work that is measured, the same for the loader (through the functions that crates/exports exports) and for the second program.
+//! The work that is measured, the same for the loader (through the functions that crates/exports exports) and for the second program;
+//! plug.rs has that of the serial plug.
 //!
 //! `measure names` prints the lines; `measure repeat LINE WHO COUNT` does a line's work so many times, WHO being `ours`, `second`, or
 //! `packed`, which is the second program behind the same numbers as ours;
@@ -9,6 +10,7 @@
 
 #[path = "../../tests/compare/src/layout.rs"]
 mod layout;
+mod plug;
 
 use std::hint::black_box;
 use std::io::Write;
@@ -303,12 +305,32 @@ impl Work {
         }
         begin.elapsed().as_secs_f64() * 1e6 / count as f64
     }
+}
+
+/// What is measured: the work of the USB loader, then that of the serial plug.
+struct Lines {
+    work: Work,
+    plug: plug::Work,
+}
+
+impl Lines {
+    /// Does a line's work so many times with one program: the microseconds of one time.
+    fn repeat(&mut self, line: usize, who: &str, count: usize) -> f64 {
+        match (line.checked_sub(NAMES.len()), who) {
+            (None, "ours") => self.work.repeat::<Ours>(line, count),
+            (None, "packed") => self.work.repeat::<Packed>(line, count),
+            (None, _) => self.work.repeat::<Second>(line, count),
+            (Some(line), "ours") => self.plug.repeat::<plug::Ours>(line, count),
+            (Some(line), "packed") => self.plug.repeat::<plug::Packed>(line, count),
+            (Some(line), _) => self.plug.repeat::<plug::Second>(line, count),
+        }
+    }
 
     /// The least of several goes, in microseconds: ours, then the second's.
     fn time(&mut self, line: usize) -> (f64, f64) {
         let count = if line >= 4 && line <= 6 { 200 } else { 20 };
         (0..15).fold((f64::MAX, f64::MAX), |(ours, second), _| {
-            (ours.min(self.repeat::<Ours>(line, count)), second.min(self.repeat::<Second>(line, count)))
+            (ours.min(self.repeat(line, "ours", count)), second.min(self.repeat(line, "second", count)))
         })
     }
 }
@@ -316,24 +338,20 @@ impl Work {
 fn main() {
     let words: Vec<String> = std::env::args().skip(1).collect();
     let words: Vec<&str> = words.iter().map(String::as_str).collect();
-    let mut work = Work::new();
+    let names = || NAMES.iter().chain(&plug::NAMES);
+    let mut lines = Lines { work: Work::new(), plug: plug::Work::new() };
     match words[..] {
-        ["names"] => NAMES.iter().for_each(|name| println!("{name}")),
+        ["names"] => names().for_each(|name| println!("{name}")),
         ["repeat", line, who, count] => {
-            let (line, count) = (line.parse().expect("a line"), count.parse().expect("a count"));
-            match who {
-                "ours" => work.repeat::<Ours>(line, count),
-                "packed" => work.repeat::<Packed>(line, count),
-                _ => work.repeat::<Second>(line, count),
-            };
+            lines.repeat(line.parse().expect("a line"), who, count.parse().expect("a count"));
         }
         ["time"] => {
-            for line in 0..NAMES.len() {
-                let (ours, second) = work.time(line);
+            for line in 0..names().count() {
+                let (ours, second) = lines.time(line);
                 println!("{ours:.2} {second:.2}");
             }
         }
-        ["job"] => std::io::stdout().write_all(&work.flat_job).expect("the job is written"),
+        ["job"] => std::io::stdout().write_all(&lines.work.flat_job).expect("the job is written"),
         _ => println!("measure names | repeat LINE WHO COUNT | time | job"),
     }
 }

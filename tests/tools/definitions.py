@@ -1,9 +1,10 @@
 """The definitions of the crates' specs, looked up by name and worked out on plain values: enough of antt for what a table of a page
 says.
 
-A number is a number, a list a Python list, a record a dictionary, and a case a tuple of its name and what it carries. Arguments are
-worked out first, the branches of an `if` and what a `let` names only where they are needed."""
+A number is a number, a list a Python list, a text the list of its characters, a record a dictionary, and a case a tuple of its name and
+what it carries. Arguments are worked out first, the branches of an `if` and what a `let` names only where they are needed."""
 import functools
+import json
 import pathlib
 import re
 import sys
@@ -82,6 +83,8 @@ class Reader:
             return inner
         if word == "record":
             return self.record()
+        if word.startswith('"'):
+            return ("text", json.loads(word))
         return ("number", int(word, 0)) if NUMBER.fullmatch(word) else ("name", word.split(".")[-1])
 
     def record(self):
@@ -105,6 +108,8 @@ BUILT_IN = {
     "not": (1, lambda a: not a),
     "suc": (1, lambda a: a + 1),
     "max": (2, max),
+    "min": (2, min),
+    "code": (1, ord),
     "length": (1, len),
     "take": (2, lambda n, m: m[:n]),
     "drop": (2, lambda n, m: m[n:]),
@@ -154,10 +159,11 @@ def both(patterns, values):
 
 
 class Definitions:
-    """All definitions under crates/*/specs. `value("padding", 0xAF)` works one out; its file is found by the name."""
+    """All definitions under crates/*/specs. `value("padding", 0xAF)` works one out; its file is found by the name. A name that stands in
+    more than one file is asked for with its crate, `value("plug:level", config)`, or with its file, `value("plug/Config:level", config)`."""
 
     def __init__(self, root):
-        self.clauses, self.files = {}, {}
+        self.clauses, self.files, self.renamed = {}, {}, {}
         for path in sorted(pathlib.Path(root).glob("crates/*/specs/*.antt")):
             crate, file = path.parts[-3], path.stem
             text = re.sub(r"(?m)--.*$", "", path.read_text())
@@ -166,7 +172,29 @@ class Definitions:
                 self.files.setdefault(name, []).append((crate, file))
                 self.clauses[crate, file, name] = bodies
             self.clauses[crate, file, None] = re.findall(r"use Rattle·(\w+)(?:·specs)?\.specs\.(\w+)\.\{([^}]*)\}", text)
+            used = re.findall(r"(\S+) as ([^\s,}]+)", " ".join(re.findall(r"(?m)^(?:pub )?use [^{\n]*\{([^}]*)\}", text)))
+            self.renamed[crate, file] = {new.strip("_"): old.strip("_") for old, new in used}
         self.read = {}
+
+    @functools.cache
+    def own(self, name, place):
+        """The name that a case has where it is declared, of the one that it has in a file: `use` may give it another."""
+        if name in self.renamed[place]:
+            return self.renamed[place][name]
+        for crate, file, names in self.clauses[(*place, None)]:
+            if (crate, file) in self.renamed and name in re.split(r"[,\s]+", names):
+                return self.own(name, (crate, file))
+        return name
+
+    def asked(self, words):
+        """The file and the name of a definition that is asked for, by the name alone or with its crate or its file before it."""
+        where, _, name = words.rpartition(":")
+        if not where:
+            return self.place(name), name
+        places = [place for place in self.files.get(name, []) if where in (place[0], "/".join(place))]
+        if len(places) != 1:
+            raise LookupError(f"the definition {name} is looked for once in {where}, and stands in {len(places)} files there")
+        return places[0], name
 
     @functools.cache
     def place(self, name, near=None):
@@ -187,7 +215,8 @@ class Definitions:
             read = []
             for body in self.clauses[(*place, name)]:
                 left, right = body.split("=", 1)
-                patterns, reader = Reader(tokens(left)), Reader(tokens(right))
+                patterns = Reader([self.own(word, place) for word in tokens(left)])
+                reader = Reader([word if word in WORDS else self.own(word, place) for word in tokens(right)])
                 found = []
                 while patterns.at < len(patterns.words):
                     found.append(patterns.atom())
@@ -200,8 +229,9 @@ class Definitions:
             self.read[place, name] = read
         return self.read[place, name]
 
-    def value(self, name, *arguments):
-        return self.call(self.place(name), name, list(arguments))
+    def value(self, words, *arguments):
+        place, name = self.asked(words)
+        return self.call(place, name, list(arguments))
 
     def call(self, place, name, arguments):
         clauses = self.clauses_of(place, name)
@@ -236,6 +266,8 @@ class Definitions:
         kind, *parts = expression
         if kind == "number":
             return parts[0]
+        if kind == "text":
+            return list(parts[0])
         if kind == "name":
             return self.named(parts[0], bound, place)
         if kind == "record":

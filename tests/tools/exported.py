@@ -1,16 +1,17 @@
 """What crates/exports exports, read from three places: the Rattle source, the Rust declarations and the C header; and the layout of its
-numbers, read from the code of crates/numbers and from the tables of the header."""
+numbers, read from the code of crates/numbers and crates/plugnumbers and from the tables of the header."""
 import re
 
 RATTLE = {
-    "u8": [("u8", "")], "u64": [("u64", "")], "usize": [("usize", "")],
-    "&mut u64": [("*mut u64", "")], "&mut usize": [("*mut usize", "")],
-    "&[u8]": [("*const u8", ""), ("usize", "_size")], "&mut [u8]": [("*mut u8", ""), ("usize", "_size")],
+    "u8": [("u8", "")], "u16": [("u16", "")], "u32": [("u32", "")], "u64": [("u64", "")], "usize": [("usize", "")],
+    "&mut u8": [("*mut u8", "")], "&mut u16": [("*mut u16", "")], "&mut u32": [("*mut u32", "")], "&mut u64": [("*mut u64", "")],
+    "&mut usize": [("*mut usize", "")], "&[u8]": [("*const u8", ""), ("usize", "_size")], "&mut [u8]": [("*mut u8", ""), ("usize", "_size")],
 }
-RUST = {"u8": "u8", "u64": "u64", "usize": "usize", "&mut u64": "*mut u64", "&mut usize": "*mut usize", "*const u8": "*const u8",
-        "*mut u8": "*mut u8"}
-C = {"uint8_t": "u8", "uint64_t": "u64", "size_t": "usize", "uint64_t *": "*mut u64", "size_t *": "*mut usize",
-     "const uint8_t *": "*const u8", "uint8_t *": "*mut u8"}
+RUST = {"u8": "u8", "u16": "u16", "u32": "u32", "u64": "u64", "usize": "usize", "&mut u8": "*mut u8", "&mut u16": "*mut u16",
+        "&mut u32": "*mut u32", "&mut u64": "*mut u64", "&mut usize": "*mut usize", "*const u8": "*const u8", "*mut u8": "*mut u8"}
+C = {"uint8_t": "u8", "uint16_t": "u16", "uint32_t": "u32", "uint64_t": "u64", "size_t": "usize", "uint8_t *": "*mut u8",
+     "uint16_t *": "*mut u16", "uint32_t *": "*mut u32", "uint64_t *": "*mut u64", "size_t *": "*mut usize",
+     "const uint8_t *": "*const u8"}
 
 
 def parameters(text):
@@ -60,16 +61,26 @@ OUTCOME = {
     "Outcome::Done": "done", "Outcome::Stall": "stall", "StartKind::Reset": "start by reset",
     "StartKind::AtAddress": "start at an address", "Outcome::Refused": "refused",
 }
+SERIAL_OUTCOME = {
+    "Outcome::Answered": "answered", "Outcome::StartedReset": "start by reset", "Outcome::StartedAt": "start at an address",
+    "Outcome::Refused": "refused",
+}
 CONFIG = {"bsb": "BSB", "sbv": "SBV", "p1cf": "P1_CF", "p3cf": "P3_CF", "p4cf": "P4_CF", "ssb": "SSB", "eb": "EB", "hsb": "HSB"}
 ARM = re.compile(r"(\w+::\w+)(?:\([^)]*\))? => pack_words\(((?:[^()]|\([^()]*\))*)\)")
 
 
-def bits(text):
-    """The first bit of each of the four words, and how many bits a word and a byte have, by the constants of packing.rt."""
+def powers_of(text):
+    """The exponent of each constant of a file, all of which are powers of two."""
     worth = {name: int(value, 0) for name, value in re.findall(r"const (\w+): u\d+ = (\w+);", text)}
     powers = {name: value.bit_length() - 1 for name, value in worth.items()}
     if any(1 << powers[name] != value for name, value in worth.items()):
         raise ValueError(f"not powers of two: {worth}")
+    return powers
+
+
+def bits(text):
+    """The first bit of each of the four words, and how many bits a word and a byte have, by the constants of packing.rt."""
+    powers = powers_of(text)
     total = re.search(r"\(a as u64\)(?: \+ (\w+) \* \(b as u64\))(?: \+ (\w+) \* \(c as u64\))(?: \+ (\w+) \* \(d as u64\))", text)
     return [0] + [powers[name] for name in total.groups()], powers["WORD"], powers["BYTE"]
 
@@ -84,11 +95,26 @@ def field(word):
     return "-" if word == "0" else word
 
 
+def serial_from_code(read):
+    """The two tables of the serial plug, by the code of crates/plugnumbers."""
+    config, outcome = read("plugnumbers/config_number.rt"), read("plugnumbers/outcome_number.rt")
+    powers = powers_of(config)
+    packed = re.findall(r"(?:\+ (\w+) \* )?\(config\.(\w+) as u32\)", config)
+    four = [named(powers[worth] if worth else 0, powers["BYTE"], CONFIG[name]) for worth, name in packed]
+    second = powers_of(outcome)[re.search(r"\(a as u64\) \+ (\w+) \* \(b as u64\)$", outcome, re.MULTILINE)[1]]
+    rows = [(arm, *map(str.strip, words.split(","))) for arm, words in ARM.findall(outcome)]
+    outcomes = sorted((int(kind), SERIAL_OUTCOME[arm], field(value)) for arm, kind, value in rows)
+    return {
+        "Serial configuration": (four, (), []),
+        "Serial outcome": ([], ("outcome", f"bits {second}-{2 * second - 1}"), outcomes),
+    }
+
+
 def from_code(read):
-    """The four tables, by the code: `read` gives the text of a file of crates/numbers/src."""
-    starts, word, byte = bits(read("packing.rt"))
+    """All tables, by the code: `read` gives the text of a file, named by its crate and its place in src."""
+    starts, word, byte = bits(read("numbers/packing.rt"))
     place = [f"bits {start}-{start + word - 1}" for start in starts]
-    session, config, command, outcome = (read(f"{name}_number.rt") for name in ("session", "config", "command", "outcome"))
+    session, config, command, outcome = (read(f"numbers/{name}_number.rt") for name in ("session", "config", "command", "outcome"))
 
     state, status = re.search(r"two_bytes\(session\.(\w+), session\.(\w+)\), pending", session).groups()
     head = [named(0, byte, state), named(byte, byte, status), named(starts[1], word, "kind")]
@@ -113,14 +139,15 @@ def from_code(read):
         "Configuration": (eight, (), []),
         "Command": ([], ("command", place[1], place[2]), sorted(commands)),
         "Outcome": ([], ("outcome", place[1]), outcomes),
+        **serial_from_code(read),
     }
 
 
 def from_header(text):
-    """The four tables, by the header's first comment."""
+    """The tables, by the header's first comment."""
     comment = re.match(r"/\*(.*?)\*/", text, re.DOTALL)[1]
     tables = {}
-    for title, body in re.findall(r"^ \* (\w+): .*?\n((?:^ \*(?:   .*)?\n)+)", comment, re.MULTILINE):
+    for title, body in re.findall(r"^ \* (\w+(?: \w+)?): .*?\n((?:^ \*(?:   .*)?\n)+)", comment, re.MULTILINE):
         head, columns, rows = [], (), []
         for line in (line[2:].strip() for line in body.splitlines()):
             words = re.split(r"  +", line)

@@ -1,7 +1,7 @@
-"""The two programs that turn a job into lines, and jobs with the lines that they must print.
+"""The two programs that turn a job or a file of records into lines, and jobs with the lines that they must print.
 
-A page of jobs is a Markdown file where each block marked `job`, a readable job, is followed by a block marked `lines`, and that
-may be followed by a block marked `explained`."""
+A page of jobs is a Markdown file where each block marked `job`, a readable job, or `records`, a file of records, is followed by a block
+marked `lines`, and that may be followed by a block marked `explained`."""
 import itertools
 import pathlib
 import re
@@ -27,6 +27,13 @@ def programs(stand_in):
     return {"bench": ours, "second": second}
 
 
+def serial_programs(stand_in):
+    """The same for a file of records. The loader ends its answers with CR LF, and ./bench shows them without the CR."""
+    second = ROOT / "target/second/release/listing"
+    commands = programs(stand_in or [ROOT / "bench", "--serial", "-"])
+    return {**commands, "second": ["sh", "-c", f"'{second}' | tr -d '\\r'"]}
+
+
 def raw_of(text):
     """The raw bytes of a readable job."""
     made = run([ROOT / "tools/job", "raw", "-"], text.encode())
@@ -35,22 +42,23 @@ def raw_of(text):
     return made.stdout
 
 
-def page_jobs(page):
-    """Each job of a page: the heading above it, its text, and its lines."""
+def page_jobs(page, kind="job"):
+    """Each job of a page: the heading above it, its text, and its lines. The same of another kind."""
     text = page.read_text()
     fences = list(FENCE.finditer(text))
     kinds = "".join(f"{fence[1]} " for fence in fences)
-    if "job lines " not in kinds or not re.fullmatch("((sh|job lines( explained)?) )*", kinds):
+    some = kind != "job" or "job lines " in kinds
+    if not some or not re.fullmatch("((sh|(job|records) lines( explained)?) )*", kinds):
         sys.exit(f"{page}: each job is followed by its lines, and there is no other block but sh and explained; here stand {kinds}")
     for job, lines in zip(fences, fences[1:]):
-        if job[1] == "job":
+        if job[1] == kind:
             yield re.findall(r"^#+ (.*)", text[: job.start()], re.MULTILINE)[-1], job[2], lines[2]
 
 
-def page_explained(page):
-    """Each job of a page that is explained there: its text and what is to be printed."""
+def page_explained(page, kind="job"):
+    """Each job of a page that is explained there: its text and what is to be printed. The same of another kind."""
     fences = list(FENCE.finditer(page.read_text()))
-    yield from ((job[2], told[2]) for job, told in zip(fences, fences[2:]) if told[1] == "explained")
+    yield from ((job[2], told[2]) for job, told in zip(fences, fences[2:]) if told[1] == "explained" and job[1] == kind)
 
 
 def differences(commands, raw, lines):

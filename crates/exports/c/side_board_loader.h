@@ -3,7 +3,7 @@
  * Each function answers for every input; its promise stands in crates/exports/src/lib.rt. It relies on this alone: a pointer before a
  * size leads to that many bytes, each other pointer to one number, and nothing that is changed overlaps anything else.
  *
- * Session, configuration, command and outcome are numbers of 64 bits.
+ * Session, configuration, command and outcome are numbers of 64 bits. Those of the serial plug stand last.
  *
  * Session: state, status, and what is pending, by its kind.
  *
@@ -57,6 +57,21 @@
  *   0     done                 -
  *   1     stall                -
  *   2     start by reset       address
+ *   3     start at an address  address
+ *   4     refused              number
+ *
+ * Serial configuration: four bytes in a number of 32 bits.
+ *
+ *   bits 0-7     BSB
+ *   bits 8-15    SBV
+ *   bits 16-23   SSB
+ *   bits 24-31   HSB
+ *
+ * Serial outcome: the kind is bits 0-15 of a number of 64 bits.
+ *
+ *   kind  outcome              bits 16-31
+ *   0     answered             -
+ *   2     start by reset       -
  *   3     start at an address  address
  *   4     refused              number
  *
@@ -114,6 +129,39 @@ uint8_t loader_check_job(
 /* How many requests a job holds, through all its groups. */
 size_t loader_count_requests(
     const uint8_t *file, size_t file_size);
+
+/* The serial plug. Takes one record, its characters from the mark to the checksum, and answers its outcome. Configuration, flash and room
+ * are changed in place; *count gets how many characters of the answer stand at the front of the room, *pages how many pages were stored.
+ * Refused, both are 0 and all else stays as it was, bit for bit. */
+uint64_t serial_step(
+    uint32_t *config,
+    const uint8_t *characters, size_t characters_size,
+    uint8_t *flash, size_t flash_size,
+    uint8_t *room, size_t room_size,
+    size_t *count,
+    size_t *pages);
+
+/* The configuration of a board as it is delivered. */
+uint32_t serial_delivered(void);
+
+/* Reads the characters of a record, from its mark to its checksum: 0 with the data at the front of the room, its load
+ * offset, its type and how many bytes of data there are; 1 for a wrong checksum, 17 for a record that is none or 9 for a room that is
+ * too short, and then the room and the three numbers stay as they were. */
+uint8_t serial_read_record(
+    const uint8_t *characters, size_t characters_size,
+    uint8_t *room, size_t room_size,
+    uint16_t *offset,
+    uint8_t *kind,
+    size_t *count);
+
+/* Writes a record into the room: 0, or 17 for more than 255 bytes of data, or 9 for a room that is too short, and then the room stays as
+ * it was. *count gets how many characters were written, 0 where it refuses. */
+uint8_t serial_write_record(
+    uint16_t offset,
+    uint8_t kind,
+    const uint8_t *sent, size_t sent_size,
+    uint8_t *room, size_t room_size,
+    size_t *count);
 
 #ifdef __cplusplus
 }

@@ -38,6 +38,40 @@ extern "C" {
     fn loader_check_job(file: *const u8, file_size: usize, at: &mut usize) -> u8;
 
     fn loader_count_requests(file: *const u8, file_size: usize) -> usize;
+
+    fn serial_step(
+        config: &mut u32,
+        characters: *const u8,
+        characters_size: usize,
+        flash: *mut u8,
+        flash_size: usize,
+        room: *mut u8,
+        room_size: usize,
+        count: &mut usize,
+        pages: &mut usize,
+    ) -> u64;
+
+    fn serial_delivered() -> u32;
+
+    fn serial_read_record(
+        characters: *const u8,
+        characters_size: usize,
+        room: *mut u8,
+        room_size: usize,
+        offset: &mut u16,
+        kind: &mut u8,
+        count: &mut usize,
+    ) -> u8;
+
+    fn serial_write_record(
+        offset: u16,
+        kind: u8,
+        sent: *const u8,
+        sent_size: usize,
+        room: *mut u8,
+        room_size: usize,
+        count: &mut usize,
+    ) -> u8;
 }
 
 /// Takes one request: the outcome, how many bytes of the reply are sent, and how many pages were stored.
@@ -119,4 +153,49 @@ pub fn check_job(file: &[u8]) -> (u8, usize) {
 #[inline(always)]
 pub fn count_requests(file: &[u8]) -> usize {
     unsafe { loader_count_requests(file.as_ptr(), file.len()) }
+}
+
+/// The serial plug.
+pub mod serial {
+    /// Takes one record: the outcome, how many characters of the answer stand in the room, and how many pages were stored.
+    #[inline(always)]
+    pub fn step(config: &mut u32, characters: &[u8], flash: &mut [u8], room: &mut [u8]) -> (u64, usize, usize) {
+        let (mut count, mut pages) = (0, 0);
+        let outcome = unsafe {
+            super::serial_step(
+                config,
+                characters.as_ptr(),
+                characters.len(),
+                flash.as_mut_ptr(),
+                flash.len(),
+                room.as_mut_ptr(),
+                room.len(),
+                &mut count,
+                &mut pages,
+            )
+        };
+        (outcome, count, pages)
+    }
+
+    /// The configuration of a board as it is delivered.
+    #[inline(always)]
+    pub fn delivered() -> u32 {
+        unsafe { super::serial_delivered() }
+    }
+
+    /// Reads the characters of a record: 0, 1, 17 or 9. Where it is 0, the data stand at the front of the room, and the load offset,
+    /// the type and how many bytes of data there are stand in the three numbers, which otherwise stay.
+    #[inline(always)]
+    pub fn read_record(characters: &[u8], room: &mut [u8], offset: &mut u16, kind: &mut u8, count: &mut usize) -> u8 {
+        let (lent, size) = (room.as_mut_ptr(), room.len());
+        unsafe { super::serial_read_record(characters.as_ptr(), characters.len(), lent, size, offset, kind, count) }
+    }
+
+    /// Writes a record into the room: 0, 17 or 9, and how many characters were written.
+    #[inline(always)]
+    pub fn write_record(offset: u16, kind: u8, sent: &[u8], room: &mut [u8]) -> (u8, usize) {
+        let (lent, size, mut count) = (room.as_mut_ptr(), room.len(), 0);
+        let answer = unsafe { super::serial_write_record(offset, kind, sent.as_ptr(), sent.len(), lent, size, &mut count) };
+        (answer, count)
+    }
 }

@@ -1,8 +1,14 @@
 // The functions that a program in another language links: the step, the command reader and writer, the verdict on a job file and its
-// count of requests, over numbers and byte slices. c/side_board_loader.h has them for C, rust/exports.rs for Rust; the layout of the
-// numbers is crates/numbers'.
+// count of requests, and those of the serial plug, over numbers and byte slices. c/side_board_loader.h has them for C,
+// rust/exports.rs for Rust; the layout of the numbers is crates/numbers' and crates/plugnumbers'.
 //
 // No public function has a `requires`: each says what it answers for every input.
+mod records;
+
+pub use records::serial_delivered;
+pub use records::serial_read_record;
+pub use records::serial_step;
+pub use records::serial_write_record;
 ghost use mathlib.Core.Path.{_≡_};
 ghost use lib.ListN.{length};
 ghost use Rattle.command.specs.Reader.{readCommand, readingStatus};

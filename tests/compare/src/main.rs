@@ -1,7 +1,7 @@
 //! Compares the loader, through the functions that crates/exports exports, with the second program.
 //!
-//! `compare [SEQUENCES [SEED [BENCH...]]]`: a board of every SSB value, then so many sequences and as many jobs; BENCH are the words
-//! that start our bench program.
+//! `compare [SEQUENCES [SEED [BENCH...]]]`: a board of every SSB value, the serial plug, then so many sequences and as many jobs; BENCH
+//! are the words that start our bench program.
 //! It prints how often each thing was reached, and fails at the first difference, or if something was not reached.
 
 mod commands;
@@ -11,6 +11,7 @@ mod layout;
 mod make;
 mod random;
 mod sequence;
+mod serial;
 mod shrink;
 mod tally;
 
@@ -32,8 +33,9 @@ fn main() -> ExitCode {
     let (sequences, seed) = (number(0, SEQUENCES), number(1, 1));
     let mut bench = Bench::new(words.get(2..).unwrap_or(&[]));
     println!("compare: {sequences} sequences and jobs from seed {seed}");
-    let mut tally = Tally::default();
-    if let Some(what) = boards(&mut tally) {
+    let (mut tally, mut records) = (Tally::default(), serial::Tally::default());
+    let on_plug = |what| format!("on the serial plug\n{what}");
+    if let Some(what) = boards(&mut tally).or_else(|| serial::difference(sequences, seed, &mut records).map(on_plug)) {
         println!("DIFFERENCE {what}");
         return ExitCode::FAILURE;
     }
@@ -51,10 +53,10 @@ fn main() -> ExitCode {
         }
     }
     println!(
-        "compare: {} requests, {} jobs, {} of them through both bench programs, no difference",
-        tally.requests, tally.jobs, tally.bench_runs
+        "compare: {} requests, {} jobs, {} of them through both bench programs, {} records of the serial plug, no difference",
+        tally.requests, tally.jobs, tally.bench_runs, records.records
     );
-    let missed = tally.report();
+    let missed = [tally.report(), records.report()].concat();
     if !missed.is_empty() {
         println!("NOT REACHED: {}", missed.join(", "));
         return ExitCode::FAILURE;
@@ -84,7 +86,7 @@ fn one(random: &mut Random, bench: &mut Bench, tally: &mut Tally) -> Option<Stri
         if let Step::Ask(request) = step {
             if commands::difference(&request.data, tally).is_some() {
                 let differs = |payload: &[u8]| commands::difference(payload, &mut Tally::default()).is_some();
-                let payload = shrink::bytes(request.data, differs);
+                let payload = shrink::list(request.data, differs);
                 let what = commands::difference(&payload, &mut Tally::default());
                 return Some(format!("payload {}\n{}", hex(&payload), what.unwrap_or_default()));
             }
@@ -105,7 +107,7 @@ fn job(random: &mut Random, bench: &mut Bench, tally: &mut Tally) -> Option<Stri
     tally.jobs += 1;
     if jobs::difference(&file, tally).is_some() {
         let differs = |smaller: &[u8]| jobs::difference(smaller, &mut Tally::default());
-        let file = shrink::bytes(file, |smaller| differs(smaller).is_some());
+        let file = shrink::list(file, |smaller| differs(smaller).is_some());
         return Some(format!("job {}\n{}", hex(&file), differs(&file).unwrap_or_default()));
     }
     bench.hand(&file, tally).map(|(file, _)| lines_told(bench, file))
@@ -113,7 +115,7 @@ fn job(random: &mut Random, bench: &mut Bench, tally: &mut Tally) -> Option<Stri
 
 /// The smallest job of which the two bench programs print other lines.
 fn lines_told(bench: &Bench, file: Vec<u8>) -> String {
-    let file = shrink::bytes(file, |smaller| bench.difference(smaller).is_some());
+    let file = shrink::list(file, |smaller| bench.difference(smaller).is_some());
     format!("job {}\n{}", hex(&file), bench.difference(&file).unwrap_or_default())
 }
 

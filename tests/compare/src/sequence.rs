@@ -97,12 +97,12 @@ impl Second {
 }
 
 /// Where two memories first differ.
-fn place(name: &str, ours: &[u8], second: &[u8]) -> Option<String> {
+pub fn place(name: &str, ours: &[u8], second: &[u8]) -> Option<String> {
     let at = if ours == second { None } else { ours.iter().zip(second).position(|(a, b)| a != b) };
     at.map(|at| format!("{name} at {at:04X}h: ours {:02X}h, second {:02X}h", ours[at], second[at]))
 }
 
-fn number(name: &str, ours: u64, second: u64) -> Option<String> {
+pub fn number(name: &str, ours: u64, second: u64) -> Option<String> {
     (ours != second).then(|| format!("{name}: ours {ours:X}h, second {second:X}h"))
 }
 

@@ -77,8 +77,8 @@ fn requests(request: &Request) -> Vec<Request> {
     list
 }
 
-/// Leaves out bytes as long as a difference is left.
-pub fn bytes(mut found: Vec<u8>, differs: impl Fn(&[u8]) -> bool) -> Vec<u8> {
+/// Leaves out bytes, or steps, as long as a difference is left.
+pub fn list<T: Clone>(mut found: Vec<T>, differs: impl Fn(&[T]) -> bool) -> Vec<T> {
     let mut size = found.len() / 2;
     while size > 0 {
         let mut from = 0;

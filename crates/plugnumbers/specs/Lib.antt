@@ -1,0 +1,3 @@
+-- The layout of the serial plug's numbers, and what makes it a layout.
+pub mod Layout
+pub mod Unpacked
