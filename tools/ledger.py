@@ -1,8 +1,9 @@
-"""The ledger of a job: which bytes were programmed and by which request, and what came back where they were read. It knows of a
-board only what the bench program's lines said."""
+"""The ledger of a job or of a file of records: which bytes were programmed and by which request, and what came back where they were
+read. It knows of a board only what the bench program's lines said."""
 from collections import defaultdict
 
 from commands import counted, span
+from commands import place as in_words
 
 BLANK = 0xFF  # what an erase leaves
 
@@ -19,9 +20,10 @@ def runs(entries):
 
 
 class Ledger:
-    """Every place of a memory is a pair of memory and address; requests are named by number."""
+    """Every place of a memory is a pair of memory and address; requests, or what else the file holds, are named by number."""
 
-    def __init__(self):
+    def __init__(self, thing="request", whole="job"):
+        self.thing, self.whole = thing, whole
         self.sent = {}  # place: the byte and the request that programmed it last
         self.erased = {}  # place: the request that erased it after that
         self.refused = defaultdict(set)  # place: requests that would have programmed it after that, and were not taken
@@ -61,12 +63,12 @@ class Ledger:
     def told(self, read, right):
         """Where each part of what was read comes from."""
         for memory, start, end, request in runs((place, self.sent[place][1]) for place in right):
-            yield f"{memory} {span(start, end)}: as request {request} sent it{self.but(request)}."
+            yield f"{memory} {span(start, end)}: as {self.thing} {request} sent it{self.but(request)}."
         fresh = runs((place, None) for place in read if place not in self.sent)
-        yield from (f"{memory} {span(start, end)}: not programmed in this job." for memory, start, end, _ in fresh)
+        yield from (f"{memory} {span(start, end)}: not programmed in this {self.whole}." for memory, start, end, _ in fresh)
         lost = runs((place, max(self.refused[place])) for place in read if place in self.refused)
         for memory, start, end, request in lost:
-            yield f"{memory} {span(start, end)}: NOTHING of request {request} is here, because it was not taken."
+            yield f"{memory} {span(start, end)}: NOTHING of {self.thing} {request} is here, because it was not taken."
 
     def but(self, request):
         return ", MISPLACED as said there" if request in self.misplaced else ""
@@ -78,9 +80,9 @@ class Ledger:
             by[self.sent[place][1], self.erased.get(place)].append(place)
         for (request, erased), places in by.items():
             memory, at = places[0]
-            told = f"NOT AS SENT: {counted(len(places))} of request {request} came back changed, the first at {memory} {at:04X}h:"
+            told = f"NOT AS SENT: {counted(len(places))} of {self.thing} {request} came back changed, the first at {memory} {at:04X}h:"
             told += f" sent {self.sent[places[0]][0]:02X}h, read {wrong[places[0]]:02X}h."
-            yield told + (f" Request {erased} erased it in between." if erased else "")
+            yield told + (f" {self.thing.capitalize()} {erased} erased it in between." if erased else "")
 
     def read_back(self):
         return runs((place, self.sent[place][1]) for place in self.as_sent)
@@ -88,3 +90,21 @@ class Ledger:
     def never_read(self):
         """What was programmed and not read since, with the request and, where it was erased again, that request."""
         return runs((place, (self.sent[place][1], self.erased.get(place, 0))) for place in self.sent if place not in self.seen)
+
+    def summary(self):
+        """Sentences on what was read back and what was not; reasons not to sign, each with its number; and what nobody compared. What
+        was programmed and then erased for good is such a reason."""
+        told = [] if self.sent else ["Nothing was programmed."]
+        reasons, unchecked = [], []
+        for memory, start, end, request in self.read_back():
+            told.append(f"Read back as {self.thing} {request} sent it{self.but(request)}: {in_words(memory, start, end)}.")
+        for memory, start, end, (request, erased) in self.never_read():
+            what = in_words(memory, start, end)
+            if erased:
+                reasons.append((erased, f"ERASED what {self.thing} {request} programmed: {what}."))
+            else:
+                told.append(f"Programmed and never read back: {what} ({self.thing} {request}). Nobody has compared it.")
+                unchecked.append(what)
+        if self.seen:
+            told.append("Compare what was read with the sheet: the board gives back what was sent, not what was meant.")
+        return told, reasons, unchecked
