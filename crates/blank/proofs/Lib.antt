@@ -1,4 +1,5 @@
 -- The laws of the blank search.
 pub mod BlankLaws
+pub mod SearchLaws
 pub mod SameBlankLaws
 pub mod OneAnswer
