@@ -14,6 +14,13 @@ pub const RANGE_MOST: u16 = 1_024;
 /// What an erased byte holds.
 pub(crate) const ERASED: u8 = 0xFF;
 
+/// The bits of an address that tell the place in its page.
+const IN_PAGE: u16 = PAGE_SIZE as u16 - 1;
+/// The wrong variant that searches the first page of a blank check from its first byte.
+const FROM_PAGE_START: bool = cfg!(feature = "blank-check-from-page-start");
+/// The wrong variant that searches the last page of a blank check to its last byte.
+const TO_PAGE_END: bool = cfg!(feature = "blank-check-to-page-end");
+
 /// Which memory a range lies in.
 #[derive(Clone, Copy, Debug, PartialEq, Eq)]
 pub enum Memory {
@@ -99,8 +106,7 @@ impl Board<'_> {
 
     /// "the first such address": of a byte not FFh in the flash range.
     pub(crate) fn first_not_blank(&self, start: u16, end: u16) -> Option<u16> {
-        let within = first_not_blank(self.bytes(Memory::Flash, start, end))?;
-        Some(start + within as u16)
+        first_not_blank(self.flash, start, end)
     }
 
     /// "A block erase sets its range to FFh"; gives 64, 64 or 128 pages.
@@ -117,13 +123,17 @@ impl Board<'_> {
     }
 }
 
-/// Where in these bytes the first one that is not FFh stands.
+/// The first address of a byte not FFh, in a range of either loader's flash that
+/// is neither backward nor outside.
 #[inline]
-pub(crate) fn first_not_blank(range: &[u8]) -> Option<usize> {
+pub(crate) fn first_not_blank(flash: &[u8], start: u16, end: u16) -> Option<u16> {
+    let start = if FROM_PAGE_START { start & !IN_PAGE } else { start };
+    let end = if TO_PAGE_END { end | IN_PAGE } else { end };
+    let range = &flash[usize::from(start)..usize::from(end) + 1];
     // A whole piece is and-ed without a branch, so that it goes in wide words.
     let (pieces, _) = range.as_chunks::<PAGE_SIZE>();
     let blank = |piece: &[u8; PAGE_SIZE]| piece.iter().fold(ERASED, |all, b| all & b) == ERASED;
     let skipped = pieces.iter().take_while(|piece| blank(piece)).count() * PAGE_SIZE;
     let within = range[skipped..].iter().position(|&b| b != ERASED)?;
-    Some(skipped + within)
+    Some(start + (skipped + within) as u16)
 }

@@ -124,9 +124,9 @@ fn obey(config: Config, command: Command, flash: &mut Flash, room: &mut [u8]) ->
         Command::Display { start, end } => {
             answer::display(config, start, bytes(flash, start, end), room)
         }
-        Command::BlankCheck { start, end } => match first_not_blank(bytes(flash, start, end)) {
+        Command::BlankCheck { start, end } => match first_not_blank(flash, start, end) {
             None => answer::say(config, answer::DONE, room),
-            Some(within) => answer::say(config, answer::address_line(start + within as u16), room),
+            Some(address) => answer::say(config, answer::address_line(address), room),
         },
         Command::Read(source) => {
             answer::say(config, answer::value_line(source.value(&config)), room)

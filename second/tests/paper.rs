@@ -1320,6 +1320,55 @@ fn blank_check_finds_the_first_anywhere() {
     }
 }
 
+/// Runs a blank check, which leaves 05h and the first address, or nothing.
+#[track_caller]
+fn checks(rig: &mut Rig, start: u16, end: u16, first: Option<u16>) {
+    rig.session = Session { state: 2, status: 0, pending: Pending::Nothing };
+    let answer = rig.send(&dnload(6), &ranged(0x03, 0x01, start, end));
+    assert_eq!(answer, Answer { outcome: Outcome::Done, length: 0, pages: 0 });
+    let (status, pending) = first.map_or((0, Pending::Nothing), |at| (5, Pending::Blank(at)));
+    assert_eq!(rig.session, Session { state: 3, status, pending }, "{start:04X}h-{end:04X}h");
+}
+
+/// "a range includes both ends", and no byte around it counts, of its own pages
+/// either: each range, from one byte on, in the first two pages, in two on the
+/// way and in the last two, with all the other flash not FFh.
+#[test]
+fn blank_check_keeps_to_its_range() {
+    let mut rig = Rig::new();
+    for first in [0x0000_u16, 0x1200, 0x7F00] {
+        for start in first..=first + 0xFF {
+            rig.flash.fill(0x00);
+            for end in start..=first + 0xFF {
+                rig.flash[usize::from(end)] = 0xFF;
+                checks(&mut rig, start, end, None);
+                rig.flash[usize::from(end)] = 0xFE;
+                checks(&mut rig, start, end, Some(end));
+                rig.flash[usize::from(start)] = 0x7F;
+                checks(&mut rig, start, end, Some(start));
+                rig.flash[usize::from(start)] = 0xFF;
+                rig.flash[usize::from(end)] = 0xFF;
+            }
+        }
+    }
+}
+
+/// The first and the last byte of each of the 256 pages, in a range over all of
+/// them, and in one that leaves out the first byte and the last of the flash.
+#[test]
+fn blank_check_looks_at_each_page() {
+    let mut rig = Rig::new();
+    for page in 0..256_u16 {
+        for place in [page * 128, page * 128 + 127] {
+            rig.flash[usize::from(place)] = 0xFE;
+            checks(&mut rig, 0x0000, 0x7FFF, Some(place));
+            let inside = place != 0x0000 && place != 0x7FFF;
+            checks(&mut rig, 0x0001, 0x7FFE, inside.then_some(place));
+            rig.flash[usize::from(place)] = 0xFF;
+        }
+    }
+}
+
 // --------------------------------------------------------------- the writer
 
 /// Writes into a marked room of that length and checks what is past the answer.

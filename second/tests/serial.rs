@@ -1082,6 +1082,56 @@ fn blank_check_finds_the_first() {
     expect(&Board::open(), &look(0x0000, 0xFFFF, 1), says(".\r\n"));
 }
 
+/// Runs a blank check, which answers with the first address, or `.`.
+#[track_caller]
+fn checks(board: &mut Board, start: u16, end: u16, first: Option<u16>) {
+    let want = first.map_or(".\r\n".to_string(), |at| format!("{at:04X}\r\n"));
+    let config = board.config;
+    let answer = board.send(&look(start, end, 1));
+    let length = want.len();
+    assert_eq!(answer, Answer { outcome: Outcome::Answered, length, pages: 0, config });
+    assert_eq!(&board.room[..length], want.as_bytes(), "{start:04X}h-{end:04X}h");
+}
+
+/// No byte around the range counts, of its own pages either: each range, from one
+/// byte on, in the first two pages, in the two around 8000h and in the last two,
+/// with all the other flash not FFh.
+#[test]
+fn blank_check_keeps_to_its_range() {
+    let mut board = Board::open();
+    for first in [0x0000_u16, 0x7F80, 0xFF00] {
+        for start in first..=first + 0xFF {
+            board.flash.fill(0x00);
+            for end in start..=first + 0xFF {
+                board.flash[usize::from(end)] = 0xFF;
+                checks(&mut board, start, end, None);
+                board.flash[usize::from(end)] = 0xFE;
+                checks(&mut board, start, end, Some(end));
+                board.flash[usize::from(start)] = 0x7F;
+                checks(&mut board, start, end, Some(start));
+                board.flash[usize::from(start)] = 0xFF;
+                board.flash[usize::from(end)] = 0xFF;
+            }
+        }
+    }
+}
+
+/// The first and the last byte of each of the 512 pages, in a range over all of
+/// them, and in one that leaves out the first byte and the last of the flash.
+#[test]
+fn blank_check_looks_at_each_page() {
+    let mut board = Board::open();
+    for page in 0..512_u16 {
+        for place in [page * 128, page * 128 + 127] {
+            board.flash[usize::from(place)] = 0xFE;
+            checks(&mut board, 0x0000, 0xFFFF, Some(place));
+            let inside = place != 0x0000 && place != 0xFFFF;
+            checks(&mut board, 0x0001, 0xFFFE, inside.then_some(place));
+            board.flash[usize::from(place)] = 0xFF;
+        }
+    }
+}
+
 /// The answer's own length decides: `.` fits where an address does not.
 #[test]
 fn blank_check_rooms() {
