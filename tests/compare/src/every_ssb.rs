@@ -13,7 +13,8 @@ const WRITTEN: [u8; 5] = [0xFF, 0xFE, 0xFC, 0xFD, 0x00];
 /// A place that both memories have. Start mod 32 and mod 128 are equal there: who pads wrongly is to be found in the sequences.
 const PLACE: (u16, u16) = (0x010F, 0x0110);
 const WHOLE: (u16, u16) = (0x0000, 0x7FFF);
-const IDLE: u64 = 2;
+/// The session after power-up.
+pub const IDLE: u64 = 2;
 /// The states in which an UPLOAD can send, and how much is asked for.
 const SENDING: [(u8, usize); 4] = [(5, 1), (5, 1024), (9, 1), (9, 1024)];
 const PENDINGS: [Pending; 7] = [

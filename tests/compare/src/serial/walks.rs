@@ -1,9 +1,10 @@
-//! Records that are gone through, and not drawn by chance: every SSB at every row, every length, character, code and type, and ranges
-//! from each edge to each.
+//! Records that are gone through, and not drawn by chance: every SSB at every row, every length, character, code and type, ranges from
+//! each edge to each, and blank checks at the edges of pages.
 
 use super::make::{self, record, COUNTS, EDGES};
 use super::rows::{characters, display_size, range, summing_to, BLANK_CHECK, DISPLAY, PROGRAM, ROWS};
 use super::{Fill, Record, Sequence, Step, FLASH, MOST_ROOM};
+use crate::page_edges::FURTHER;
 use crate::random::Random;
 
 /// A room that takes every answer but a long display.
@@ -11,6 +12,9 @@ const ROOMY: usize = 300;
 const LEVEL_0: u8 = 0xFF;
 /// A place for what is asked of a board of every SSB.
 const PLACE: (u16, u16) = (0x7FF8, 0x8008);
+
+/// At the edges of the first page, of one in the middle and of the last, and one place inside.
+const PAGE_EDGES: [u16; 12] = [0x0000, 0x0001, 0x007F, 0x0080, 0x7FFF, 0x8000, 0x8040, 0x807F, 0xFF7F, 0xFF80, 0xFFFE, 0xFFFF];
 
 /// A board of any bytes and this SSB, which it has again before each record.
 fn sequence(random: &mut Random, ssb: u8, records: Vec<Record>) -> Sequence {
@@ -136,10 +140,32 @@ fn every_room(room: usize) -> Sequence {
     Sequence { config: 0, fill: Fill::Blank, steps }
 }
 
+/// Blank checks from each of these places to itself and to each one behind it, with a byte that is not FFh at this one, and another a
+/// little further on.
+fn every_used(used: u16) -> Sequence {
+    let mut random = Random::new(Random::seed_of(u64::from(used), 7));
+    let mut records = Vec::new();
+    for (at, &start) in PAGE_EDGES.iter().enumerate() {
+        let checks = PAGE_EDGES[at..].iter().map(|&end| characters(0, 4, &range((start, end), 1)));
+        records.extend(checks.map(|check| record(check, ROOMY, BLANK_CHECK.0)));
+    }
+    let mut checked = Sequence { fill: Fill::Blank, ..sequence(&mut random, LEVEL_0, records) };
+    checked.steps.splice(..0, [Step::Byte(used.saturating_add(FURTHER), 0x00), Step::Byte(used, 0x5A)]);
+    checked
+}
+
 pub fn all() -> impl Iterator<Item = Sequence> {
     let rooms = (0..=12).map(every_room);
     let ranges = EDGES.iter().map(|&start| every_range(start));
     let codes = (0..=255).map(every_code);
     let lengths = (0..=255).map(every_length);
-    (0..=255).map(every_row).chain(rooms).chain(ranges).chain(lengths).chain((0..=255).map(every_character)).chain(codes)
+    let used = PAGE_EDGES.iter().map(|&used| every_used(used));
+    (0..=255)
+        .map(every_row)
+        .chain(rooms)
+        .chain(ranges)
+        .chain(used)
+        .chain(lengths)
+        .chain((0..=255).map(every_character))
+        .chain(codes)
 }
