@@ -307,22 +307,27 @@ impl Work {
     }
 }
 
-/// What is measured: the work of the USB loader, then that of the serial plug.
+/// What is measured: the work of the USB loader, then that of the serial plug, which is made only where it is done.
 struct Lines {
     work: Work,
-    plug: plug::Work,
+    plug: Option<plug::Work>,
 }
 
 impl Lines {
     /// Does a line's work so many times with one program: the microseconds of one time.
     fn repeat(&mut self, line: usize, who: &str, count: usize) -> f64 {
-        match (line.checked_sub(NAMES.len()), who) {
-            (None, "ours") => self.work.repeat::<Ours>(line, count),
-            (None, "packed") => self.work.repeat::<Packed>(line, count),
-            (None, _) => self.work.repeat::<Second>(line, count),
-            (Some(line), "ours") => self.plug.repeat::<plug::Ours>(line, count),
-            (Some(line), "packed") => self.plug.repeat::<plug::Packed>(line, count),
-            (Some(line), _) => self.plug.repeat::<plug::Second>(line, count),
+        let Some(plug_line) = line.checked_sub(NAMES.len()) else {
+            return match who {
+                "ours" => self.work.repeat::<Ours>(line, count),
+                "packed" => self.work.repeat::<Packed>(line, count),
+                _ => self.work.repeat::<Second>(line, count),
+            };
+        };
+        let plug = self.plug.get_or_insert_with(plug::Work::new);
+        match who {
+            "ours" => plug.repeat::<plug::Ours>(plug_line, count),
+            "packed" => plug.repeat::<plug::Packed>(plug_line, count),
+            _ => plug.repeat::<plug::Second>(plug_line, count),
         }
     }
 
@@ -339,7 +344,7 @@ fn main() {
     let words: Vec<String> = std::env::args().skip(1).collect();
     let words: Vec<&str> = words.iter().map(String::as_str).collect();
     let names = || NAMES.iter().chain(&plug::NAMES);
-    let mut lines = Lines { work: Work::new(), plug: plug::Work::new() };
+    let mut lines = Lines { work: Work::new(), plug: None };
     match words[..] {
         ["names"] => names().for_each(|name| println!("{name}")),
         ["repeat", line, who, count] => {

@@ -93,7 +93,8 @@ fn record(offset: usize, kind: u8, data: &[u8]) -> Vec<u8> {
     let mut bytes = vec![data.len() as u8, (offset >> 8) as u8, offset as u8, kind];
     bytes.extend(data);
     bytes.push(bytes.iter().fold(0, |sum: u8, &byte| sum.wrapping_sub(byte)));
-    bytes.iter().fold(":".to_string(), |text, byte| format!("{text}{byte:02X}")).into_bytes()
+    let digits = bytes.iter().flat_map(|byte| [byte >> 4, byte & 15]).map(|digit| b"0123456789ABCDEF"[usize::from(digit)]);
+    [b':'].into_iter().chain(digits).collect()
 }
 
 impl Work {
