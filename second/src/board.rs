@@ -21,7 +21,47 @@ const FROM_PAGE_START: bool = cfg!(feature = "blank-check-from-page-start");
 /// The wrong variant that searches the last page of a blank check to its last byte.
 const TO_PAGE_END: bool = cfg!(feature = "blank-check-to-page-end");
 
-/// Which memory a range lies in.
+/// An address of flash. "A flash address, an EEPROM address and a page number are
+/// three things that the code keeps apart": the kinds do not stand for each other.
+///
+/// ```
+/// use second::{Command, EepromAddress, FlashAddress};
+/// let (start, end) = (FlashAddress(0x00AF), FlashAddress(0x00B3));
+/// let _ = Command::ProgramFlash { start, end };
+/// let (start, end) = (EepromAddress(0x00AF), EepromAddress(0x00B3));
+/// let _ = Command::ProgramEeprom { start, end };
+/// ```
+///
+/// ```compile_fail,E0308
+/// use second::{Command, EepromAddress};
+/// let (start, end) = (EepromAddress(0x00AF), EepromAddress(0x00B3));
+/// let _ = Command::ProgramFlash { start, end };
+/// ```
+///
+/// ```compile_fail,E0308
+/// use second::{Command, FlashAddress};
+/// let (start, end) = (FlashAddress(0x00AF), FlashAddress(0x00B3));
+/// let _ = Command::ProgramEeprom { start, end };
+/// ```
+#[derive(Clone, Copy, Debug, PartialEq, Eq)]
+pub struct FlashAddress(pub u16);
+
+/// An address of EEPROM, kept apart from a [`FlashAddress`].
+#[derive(Clone, Copy, Debug, PartialEq, Eq)]
+pub struct EepromAddress(pub u16);
+
+/// Whether the range, both ends included, is neither "backward" nor "outside" a
+/// memory of that size.
+const fn holds(size: usize, start: u16, end: u16) -> bool {
+    start <= end && (end as usize) < size
+}
+
+/// Whether the range also is not "over 1,024 bytes".
+pub(crate) const fn holds_transfer(size: usize, start: u16, end: u16) -> bool {
+    holds(size, start, end) && end - start < RANGE_MOST
+}
+
+/// Which memory a range to read lies in.
 #[derive(Clone, Copy, Debug, PartialEq, Eq)]
 pub enum Memory {
     /// Flash.
@@ -41,12 +81,12 @@ impl Memory {
 
     /// Whether the range, both ends included, is neither "backward" nor "outside".
     pub const fn holds(self, start: u16, end: u16) -> bool {
-        start <= end && (end as usize) < self.size()
+        holds(self.size(), start, end)
     }
 
     /// Whether the range also is not "over 1,024 bytes".
     pub const fn holds_transfer(self, start: u16, end: u16) -> bool {
-        self.holds(start, end) && end - start < RANGE_MOST
+        holds_transfer(self.size(), start, end)
     }
 }
 
@@ -73,7 +113,7 @@ impl Block {
 
 /// The lent memories, once refusals 2 and 3 are behind.
 ///
-/// Every range given to it has passed [`Memory::holds`].
+/// Every range given to it has passed [`holds`].
 pub(crate) struct Board<'a> {
     pub(crate) flash: &'a mut [u8; FLASH_SIZE],
     pub(crate) eeprom: &'a mut [u8; EEPROM_SIZE],
@@ -86,22 +126,6 @@ impl Board<'_> {
             Memory::Eeprom => &self.eeprom[..],
         };
         &whole[usize::from(start)..usize::from(end) + 1]
-    }
-
-    /// Stores the bytes and gives "the pages that the range meets", 0 for EEPROM.
-    pub(crate) fn program(&mut self, memory: Memory, start: u16, bytes: &[u8]) -> usize {
-        let from = usize::from(start);
-        let past = from + bytes.len();
-        match memory {
-            Memory::Flash => {
-                self.flash[from..past].copy_from_slice(bytes);
-                (past - 1) / PAGE_SIZE - from / PAGE_SIZE + 1
-            }
-            Memory::Eeprom => {
-                self.eeprom[from..past].copy_from_slice(bytes);
-                0
-            }
-        }
     }
 
     /// "the first such address": of a byte not FFh in the flash range.
@@ -120,6 +144,31 @@ impl Board<'_> {
     pub(crate) fn erase_flash(&mut self) -> usize {
         self.flash.fill(ERASED);
         FLASH_SIZE / PAGE_SIZE
+    }
+}
+
+/// Stores the bytes of a program transfer to flash and gives "the pages that the
+/// range meets".
+pub(crate) fn program_flash(
+    flash: &mut [u8; FLASH_SIZE],
+    start: FlashAddress,
+    bytes: &[u8],
+) -> usize {
+    let from = usize::from(start.0);
+    put(flash, from, bytes);
+    (from + bytes.len() - 1) / PAGE_SIZE - from / PAGE_SIZE + 1
+}
+
+/// Stores the bytes of a program transfer to EEPROM, which has no pages to give.
+pub(crate) fn program_eeprom(eeprom: &mut [u8; EEPROM_SIZE], start: EepromAddress, bytes: &[u8]) {
+    put(eeprom, usize::from(start.0), bytes);
+}
+
+/// "Programmed bytes take the new values and all others stay", in a memory of any
+/// size. A range that the address check should have kept out stores nothing.
+fn put(memory: &mut [u8], from: usize, bytes: &[u8]) {
+    if let Some(place) = memory.get_mut(from..from + bytes.len()) {
+        place.copy_from_slice(bytes);
     }
 }
 

@@ -2,11 +2,18 @@
 
 use std::ops::Range;
 
-use crate::board::{Block, Memory, FLASH_LAST};
+use crate::board::{
+    holds_transfer, Block, EepromAddress, FlashAddress, Memory, EEPROM_SIZE, FLASH_LAST, FLASH_SIZE,
+};
 use crate::config::{is_readable, is_writable};
 
 /// "X being start mod 32".
 const PAD_UNIT: usize = if cfg!(feature = "padding-mod-128") { 128 } else { 32 };
+/// The wrong variant that reads a program transfer to flash as one to EEPROM.
+const EEPROM_FOR_FLASH: bool = cfg!(feature = "program-eeprom-for-flash");
+/// The size by which the range of a program transfer to EEPROM is "outside".
+const EEPROM_BOUND: usize =
+    if cfg!(feature = "eeprom-sized-as-flash") { FLASH_SIZE } else { EEPROM_SIZE };
 
 /// "32 bytes of command (26 not looked at)".
 const COMMAND_BYTES: usize = 32;
@@ -18,14 +25,19 @@ const HEAD_BYTES: usize = 6;
 /// A command, as the table lists them.
 #[derive(Clone, Copy, Debug, PartialEq, Eq)]
 pub enum Command {
-    /// Program a range, both ends included.
-    Program {
-        /// The memory to program.
-        memory: Memory,
+    /// Program a range of flash, both ends included.
+    ProgramFlash {
         /// The first address.
-        start: u16,
+        start: FlashAddress,
         /// The last address.
-        end: u16,
+        end: FlashAddress,
+    },
+    /// Program a range of EEPROM.
+    ProgramEeprom {
+        /// The first address.
+        start: EepromAddress,
+        /// The last address.
+        end: EepromAddress,
     },
     /// Read a range.
     Read {
@@ -73,12 +85,21 @@ impl Command {
     /// start above 7FFFh" has no cause.
     pub(crate) const fn is_addressed(&self) -> bool {
         match *self {
-            Command::Program { memory, start, end } | Command::Read { memory, start, end } => {
-                memory.holds_transfer(start, end)
-            }
+            Command::ProgramFlash { start, end } => holds_transfer(FLASH_SIZE, start.0, end.0),
+            Command::ProgramEeprom { start, end } => holds_transfer(EEPROM_BOUND, start.0, end.0),
+            Command::Read { memory, start, end } => memory.holds_transfer(start, end),
             Command::BlankCheck { start, end } => Memory::Flash.holds(start, end),
             Command::StartAt(address) => address <= FLASH_LAST,
             _ => true,
+        }
+    }
+
+    /// The ends of a program transfer, which is laid out alike for both memories.
+    const fn program_ends(&self) -> Option<(u16, u16)> {
+        match *self {
+            Command::ProgramFlash { start, end } => Some((start.0, end.0)),
+            Command::ProgramEeprom { start, end } => Some((start.0, end.0)),
+            _ => None,
         }
     }
 
@@ -112,7 +133,7 @@ pub fn read_command(payload: &[u8]) -> Reading {
     if !command.is_addressed() {
         return Reading::Status08;
     }
-    let Command::Program { start, end, .. } = command else {
+    let Some((start, end)) = command.program_ends() else {
         return Reading::Command(command, 0..0, 0..0);
     };
     let data = data_place(start, end);
@@ -128,11 +149,15 @@ pub fn read_command(payload: &[u8]) -> Reading {
 pub(crate) fn form(payload: &[u8]) -> Option<Command> {
     let word = |high, low| u16::from_be_bytes([high, low]);
     Some(match *payload {
-        [0x01, memory @ (0x00 | 0x01), s1, s0, e1, e0, ..] => Command::Program {
-            memory: if memory == 0 { Memory::Flash } else { Memory::Eeprom },
-            start: word(s1, s0),
-            end: word(e1, e0),
-        },
+        // "The command reader chooses": behind it the case alone tells the memory.
+        [0x01, memory @ (0x00 | 0x01), s1, s0, e1, e0, ..] => {
+            let (start, end) = (word(s1, s0), word(e1, e0));
+            if memory == 0 && !EEPROM_FOR_FLASH {
+                Command::ProgramFlash { start: FlashAddress(start), end: FlashAddress(end) }
+            } else {
+                Command::ProgramEeprom { start: EepromAddress(start), end: EepromAddress(end) }
+            }
+        }
         [0x03, 0x01, s1, s0, e1, e0] => {
             Command::BlankCheck { start: word(s1, s0), end: word(e1, e0) }
         }
@@ -189,7 +214,7 @@ pub fn write_command(
         return Err(8);
     }
     let (head, length) = head(command);
-    let Command::Program { start, end, .. } = command else {
+    let Some((start, end)) = command.program_ends() else {
         let room = room.get_mut(..length).ok_or(9)?;
         room.copy_from_slice(&head[..length]);
         return Ok(length);
@@ -217,9 +242,8 @@ fn head(command: Command) -> ([u8; HEAD_BYTES], usize) {
     let three = |code, sub, third| ([code, sub, third, 0, 0, 0], 3);
     let four = |sub, index, value| ([0x04, sub, index, value, 0, 0], 4);
     match command {
-        Command::Program { memory, start, end } => {
-            ranged(0x01, if memory == Memory::Flash { 0x00 } else { 0x01 }, start, end)
-        }
+        Command::ProgramFlash { start, end } => ranged(0x01, 0x00, start.0, end.0),
+        Command::ProgramEeprom { start, end } => ranged(0x01, 0x01, start.0, end.0),
         Command::Read { memory, start, end } => {
             ranged(0x03, if memory == Memory::Flash { 0x00 } else { 0x02 }, start, end)
         }

@@ -111,7 +111,10 @@ impl Level {
     pub(crate) fn forbids(self, command: &Command) -> Option<u8> {
         match (command, self) {
             (
-                Command::Program { .. } | Command::EraseBlock(_) | Command::WriteHsb(_),
+                Command::ProgramFlash { .. }
+                | Command::ProgramEeprom { .. }
+                | Command::EraseBlock(_)
+                | Command::WriteHsb(_),
                 Level::One | Level::Two,
             ) => Some(ERR_WRITE),
             (Command::Read { .. } | Command::ReadHsb, Level::Two) => Some(ERR_VENDOR),

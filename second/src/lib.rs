@@ -17,7 +17,7 @@ pub mod serial;
 pub mod session;
 
 pub use bench::run;
-pub use board::{Block, Memory};
+pub use board::{Block, EepromAddress, FlashAddress, Memory};
 pub use command::{padding, read_command, write_command, Command, Reading};
 pub use config::{Config, Level};
 pub use job::{count, requests, verdict, Request};

@@ -1,6 +1,6 @@
 //! One request against the board.
 
-use crate::board::Board;
+use crate::board::{program_eeprom, program_flash, Board};
 use crate::command::{form, program_data, Command};
 use crate::config::{Config, Level, VERSION};
 use crate::session::{
@@ -233,8 +233,12 @@ fn store(
     board: &mut Board,
 ) -> Option<usize> {
     match command {
-        Command::Program { memory, start, end } => {
-            return Some(board.program(memory, start, program_data(payload, start, end)?));
+        Command::ProgramFlash { start, end } => {
+            let bytes = program_data(payload, start.0, end.0)?;
+            return Some(program_flash(board.flash, start, bytes));
+        }
+        Command::ProgramEeprom { start, end } => {
+            program_eeprom(board.eeprom, start, program_data(payload, start.0, end.0)?);
         }
         Command::EraseBlock(block) => return Some(board.erase_block(block)),
         Command::EraseAll => {

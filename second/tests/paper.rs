@@ -1,4 +1,4 @@
-//! The paper, sentence by sentence, with P1 of the change requests. Every
+//! The paper, sentence by sentence, with P1 and P4 of the change requests. Every
 //! expectation is worked out from their words; none is taken from what the
 //! program printed.
 
@@ -178,6 +178,19 @@ fn transfer(memory: u8, start: u16, end: u16, bytes: &[u8], waste: u8) -> Vec<u8
     payload.extend_from_slice(bytes);
     payload.extend_from_slice(b"sixteen bytes ..");
     payload
+}
+
+/// The codes of a program transfer: "00h flash or 01h EEPROM".
+const FLASH: u8 = 0x00;
+const EEPROM: u8 = 0x01;
+
+/// The program command of that code; P4: "each over its own address kind".
+fn program(code: u8, start: u16, end: u16) -> Command {
+    if code == FLASH {
+        Command::ProgramFlash { start: FlashAddress(start), end: FlashAddress(end) }
+    } else {
+        Command::ProgramEeprom { start: EepromAddress(start), end: EepromAddress(end) }
+    }
 }
 
 /// A generator of our own, so that a failure comes again.
@@ -1204,9 +1217,9 @@ fn forms_of_six_bytes_and_more() {
 
 #[test]
 fn the_reader_cuts_a_program_transfer() {
-    for (code, memory) in [(0, Memory::Flash), (1, Memory::Eeprom)] {
+    for code in [FLASH, EEPROM] {
         let payload = transfer(code, 0x00AF, 0x00B3, b"hello", 0x99);
-        let want = Command::Program { memory, start: 0x00AF, end: 0x00B3 };
+        let want = program(code, 0x00AF, 0x00B3);
         assert_eq!(read_command(&payload), Reading::Command(want, 47..52, 52..68));
         for length in (6..payload.len()).chain([payload.len() + 1]) {
             let mut other = payload.clone();
@@ -1259,6 +1272,157 @@ fn programming_eeprom_stores_its_range_and_no_page() {
             rig.eeprom[start.into()..=end.into()].copy_from_slice(&bytes);
             taken(rig, Pending::Nothing, 0)
         });
+    }
+}
+
+/// P4: "Programming the two memories apart". The same addresses of the one and then of
+/// the other, with bytes of their own: "Programmed bytes take the new values and all others stay",
+/// so either memory stays in full while the other is programmed. The page count is
+/// "for programming flash, the pages that the range meets", counted here address by
+/// address, "else 0".
+#[test]
+fn each_memory_is_programmed_by_itself_at_the_same_addresses() {
+    let mut random = Xorshift(0x04);
+    for start in (0x0000..=0x03FF_u16).step_by(13).chain([0x007F, 0x0080, 0x03FF]) {
+        for end in [start, start + 1, start + 0x0081, 0x03FE, 0x03FF] {
+            if end < start || end > 0x03FF {
+                continue;
+            }
+            let bytes = random.bytes(usize::from(end - start) + 1);
+            let range = usize::from(start)..usize::from(end) + 1;
+            let pages = (start..=end).filter(|&at| at == start || at % 128 == 0).count();
+            let rig = command(&Rig::filled(), &transfer(FLASH, start, end, &bytes, 0x99), |rig| {
+                rig.flash[range.clone()].copy_from_slice(&bytes);
+                taken(rig, Pending::Nothing, pages)
+            });
+            let rig = rig.at(5, 0, Pending::Nothing);
+            let bytes = random.bytes(bytes.len());
+            command(&rig, &transfer(EEPROM, start, end, &bytes, 0x99), |rig| {
+                rig.eeprom[range].copy_from_slice(&bytes);
+                taken(rig, Pending::Nothing, 0)
+            });
+        }
+    }
+}
+
+/// "Flash: 32,768 bytes, 0000h to 7FFFh", "EEPROM: 1,024 bytes, 0000h to 03FFh":
+/// what is outside the one memory may be inside the other.
+#[test]
+fn each_memory_has_its_own_bounds_to_program() {
+    for (start, end, pages, in_eeprom) in [
+        (0x03FF_u16, 0x03FF_u16, Some(1), true),
+        (0x0400, 0x0400, Some(1), false),
+        (0x03FF, 0x0400, Some(2), false),
+        (0x0001, 0x0400, Some(9), false),
+        (0x7FFF, 0x7FFF, Some(1), false),
+        (0x7FFF, 0x8000, None, false),
+        (0x8000, 0x8000, None, false),
+    ] {
+        let bytes = vec![0x42; usize::from(end - start) + 1];
+        let range = usize::from(start)..usize::from(end) + 1;
+        let to_flash = transfer(FLASH, start, end, &bytes, 0);
+        match pages {
+            Some(pages) => drop(command(&Rig::filled(), &to_flash, |rig| {
+                rig.flash[range.clone()].copy_from_slice(&bytes);
+                taken(rig, Pending::Nothing, pages)
+            })),
+            None => drop(command(&Rig::filled(), &to_flash, sets(0x08))),
+        }
+        let to_eeprom = transfer(EEPROM, start, end, &bytes, 0);
+        if in_eeprom {
+            command(&Rig::filled(), &to_eeprom, |rig| {
+                rig.eeprom[range].copy_from_slice(&bytes);
+                taken(rig, Pending::Nothing, 0)
+            });
+        } else {
+            command(&Rig::filled(), &to_eeprom, sets(0x08));
+        }
+    }
+}
+
+/// The same bounds in the reader, of "the command, stall or 08h", at every address.
+#[test]
+fn the_reader_knows_each_memory_by_its_own_bounds() {
+    for (code, last) in [(FLASH, 0x7FFF), (EEPROM, 0x03FF)] {
+        for at in 0..=0xFFFF_u16 {
+            let from = 32 + usize::from(at % 32);
+            let taken =
+                Reading::Command(program(code, at, at), from..from + 1, from + 1..from + 17);
+            let want = if at <= last { taken } else { Reading::Status08 };
+            assert_eq!(read_command(&transfer(code, at, at, &[0x42], 0)), want, "{at:04X}h");
+        }
+    }
+}
+
+/// P4: "Refusals: as before, in the same order." "Order: form, level, address
+/// (backward, outside, over 1,024 bytes ...: 08h), and for program at last its whole
+/// length", with "03h" at levels 1 and 2, for either code.
+#[test]
+fn both_memories_refuse_in_the_same_order() {
+    let form = |code| [vec![0x01, code], vec![0x01, code, 0xFF, 0xFF, 0x00]];
+    let address = |code, last: u16| {
+        [
+            // Backward, bare and as long as a transfer of a byte.
+            ranged(0x01, code, 0x00B0, 0x00AF),
+            transfer(code, 0x00B0, 0x00AF, &[0x42], 0),
+            transfer(code, 0x00AF, 0x0000, &[0x42], 0),
+            // Backward into the memory from beyond it.
+            transfer(code, last + 1, last, &[0x42], 0),
+            // 1,025 bytes, in a transfer of the right length and in a wrong one.
+            transfer(code, 0x0000, 0x0400, &[0x42; 1_025], 0),
+            transfer(code, last - 0x03FF, last + 1, &[0x42; 7], 0),
+            // Outside, of a wrong length.
+            transfer(code, last + 1, last + 1, &[0x42; 2], 0),
+        ]
+    };
+    let length = |code, last| {
+        [
+            ranged(0x01, code, 0x00AF, 0x00AF),
+            transfer(code, 0x00AF, 0x00AF, &[], 0),
+            transfer(code, 0x00AF, 0x00AF, &[0x42; 2], 0),
+            transfer(code, last, last, &[], 0),
+            transfer(code, 0x0000, 0x03FF, &[0x42; 1_023], 0),
+            transfer(code, 0x0000, 0x03FF, &[0x42; 1_025], 0),
+        ]
+    };
+    for (code, last) in [(FLASH, 0x7FFF), (EEPROM, 0x03FF)] {
+        for ssb in [LEVEL_0, LEVEL_1, LEVEL_2, 0x00] {
+            let rig = Rig::filled().ssb(ssb);
+            form(code).iter().for_each(|payload| drop(command(&rig, payload, stalls)));
+            for payload in address(code, last) {
+                let status = if ssb == LEVEL_0 { 0x08 } else { 0x03 };
+                command(&rig, &payload, sets(status));
+            }
+            for payload in length(code, last) {
+                if ssb == LEVEL_0 {
+                    command(&rig, &payload, stalls);
+                } else {
+                    command(&rig, &payload, sets(0x03));
+                }
+            }
+        }
+    }
+}
+
+/// "48 + X + n, X being start mod 32": 68 bytes for five from 00AFh, to either memory,
+/// and every other length that a command may have stalls.
+#[test]
+fn one_whole_length_programs_either_memory() {
+    for (code, pages) in [(FLASH, 1), (EEPROM, 0)] {
+        let payload = transfer(code, 0x00AF, 0x00B3, b"hello", 0x99);
+        for length in 6..=1_103 {
+            let mut payload = payload.clone();
+            payload.resize(length, 0x99);
+            if length == 68 {
+                command(&Rig::new(), &payload, |rig| {
+                    let memory = if code == FLASH { &mut rig.flash } else { &mut rig.eeprom };
+                    memory[0x00AF..=0x00B3].copy_from_slice(b"hello");
+                    taken(rig, Pending::Nothing, pages)
+                });
+            } else {
+                command(&Rig::new(), &payload, stalls);
+            }
+        }
     }
 }
 
@@ -1415,8 +1579,8 @@ fn the_writer_writes_the_table() {
 
 #[test]
 fn the_writer_writes_a_program_transfer() {
-    for (code, memory) in [(0, Memory::Flash), (1, Memory::Eeprom)] {
-        let command = Command::Program { memory, start: 0x00AF, end: 0x00B3 };
+    for code in [FLASH, EEPROM] {
+        let command = program(code, 0x00AF, 0x00B3);
         let suffix = b"sixteen bytes ..";
         let want = transfer(code, 0x00AF, 0x00B3, b"hello", 0);
         assert_eq!(want.len(), 48 + 15 + 5);
@@ -1438,7 +1602,7 @@ fn refused_8(command: Command, data: &[u8], suffix: &[u8]) {
 
 #[test]
 fn writer_refusal_8_by_range() {
-    for (memory, last) in [(Memory::Flash, 0x7FFF), (Memory::Eeprom, 0x03FF)] {
+    for (code, memory, last) in [(FLASH, Memory::Flash, 0x7FFF), (EEPROM, Memory::Eeprom, 0x03FF)] {
         for (start, end) in [
             (1_u16, 0_u16),
             (last, last + 1),
@@ -1448,7 +1612,7 @@ fn writer_refusal_8_by_range() {
             (0, 0xFFFF),
         ] {
             let data = vec![0; usize::from(end.saturating_sub(start)) + 1];
-            refused_8(Command::Program { memory, start, end }, &data, &[7; 16]);
+            refused_8(program(code, start, end), &data, &[7; 16]);
             refused_8(Command::Read { memory, start, end }, &[], &[]);
         }
     }
@@ -1462,8 +1626,8 @@ fn writer_refusal_8_by_range() {
 
 #[test]
 fn writer_refusal_8_by_data_and_suffix() {
-    for memory in [Memory::Flash, Memory::Eeprom] {
-        let command = Command::Program { memory, start: 0, end: 4 };
+    for code in [FLASH, EEPROM] {
+        let command = program(code, 0, 4);
         for length in [0, 4, 6, 1_024] {
             refused_8(command, &vec![0; length], &[7; 16]);
         }
@@ -1492,16 +1656,16 @@ fn writer_refusal_8_by_index() {
 #[test]
 fn writer_boundaries() {
     let suffix = [9; 16];
-    for (memory, start, whole) in [
-        (Memory::Flash, 0x0000, 1_072),
-        (Memory::Flash, 0x7C00, 1_072),
-        (Memory::Flash, 0x001F, 1_103),
-        (Memory::Eeprom, 0x0000, 1_072),
+    for (code, start, whole) in [
+        (FLASH, 0x0000, 1_072),
+        (FLASH, 0x7C00, 1_072),
+        (FLASH, 0x001F, 1_103),
+        (EEPROM, 0x0000, 1_072),
     ] {
-        let command = Command::Program { memory, start, end: start + 0x03FF };
+        let command = program(code, start, start + 0x03FF);
         let data = [0x5A; 1_024];
         assert_eq!(written(command, &data, &suffix, 1_103).map(|w| w.len()), Ok(whole));
-        let longer = Command::Program { memory, start, end: start + 0x0400 };
+        let longer = program(code, start, start + 0x0400);
         assert_eq!(written(longer, &[0x5A; 1_025], &suffix, 1_104), Err(8));
     }
     for value in 0..=255 {
@@ -1513,14 +1677,14 @@ fn writer_boundaries() {
 // ---------------------------------------------------------------- round trip
 
 fn any_command(random: &mut Xorshift) -> Command {
-    let memory = random.pick(&[Memory::Flash, Memory::Eeprom]);
-    let size = if memory == Memory::Flash { 32_768 } else { 1_024 };
+    let (code, memory, size) =
+        random.pick(&[(FLASH, Memory::Flash, 32_768), (EEPROM, Memory::Eeprom, 1_024)]);
     let start = random.below(size);
     let most = random.pick(&[1, 2, 40, 300, 1_024]);
     let end = (start + random.below(most)).min(size - 1);
     let (start, end) = (start as u16, end as u16);
     match random.below(13) {
-        0..=2 => Command::Program { memory, start, end },
+        0..=2 => program(code, start, end),
         3 => Command::Read { memory, start, end },
         4 => {
             let (one, two) = (random.word() & 0x7FFF, random.word() & 0x7FFF);
@@ -1537,17 +1701,24 @@ fn any_command(random: &mut Xorshift) -> Command {
     }
 }
 
+/// The code and the ends of a program command.
+fn program_parts(command: Command) -> Option<(u8, u16, u16)> {
+    match command {
+        Command::ProgramFlash { start, end } => Some((FLASH, start.0, end.0)),
+        Command::ProgramEeprom { start, end } => Some((EEPROM, start.0, end.0)),
+        _ => None,
+    }
+}
+
 /// "Reading what it wrote gives the same command, data and suffix."
 #[test]
 fn reading_what_was_written() {
     let mut random = Xorshift(0x0123_4567_89AB_CDEF);
     for _ in 0..20_000 {
         let command = any_command(&mut random);
-        let (data, suffix) = match command {
-            Command::Program { start, end, .. } => {
-                (random.bytes(usize::from(end - start) + 1), random.bytes(16))
-            }
-            _ => (vec![], vec![]),
+        let (data, suffix) = match program_parts(command) {
+            Some((_, start, end)) => (random.bytes(usize::from(end - start) + 1), random.bytes(16)),
+            None => (vec![], vec![]),
         };
         let payload = written(command, &data, &suffix, 1_103).unwrap();
         let Reading::Command(again, data_place, suffix_place) = read_command(&payload) else {
@@ -1556,6 +1727,29 @@ fn reading_what_was_written() {
         assert_eq!(again, command);
         assert_eq!(payload[data_place], data);
         assert_eq!(payload[suffix_place], suffix);
+    }
+}
+
+/// "01h, 00h flash or 01h EEPROM, start, end, then the rest": what is written for the
+/// two memories differs in its second byte alone, and each is read as its own case.
+#[test]
+fn the_second_byte_alone_tells_the_memory_to_program() {
+    for (start, end) in [(0, 0), (0x00AF, 0x00B3), (0x001F, 0x03FF), (0, 0x03FF), (0x03FF, 0x03FF)]
+    {
+        let data = vec![0x5A; usize::from(end - start) + 1];
+        let suffix = b"sixteen bytes ..";
+        let [mut flash, eeprom] = [FLASH, EEPROM].map(|code| {
+            let payload = written(program(code, start, end), &data, suffix, 1_103).unwrap();
+            let Reading::Command(again, data_place, suffix_place) = read_command(&payload) else {
+                panic!("{start:04X}h-{end:04X}h is not read back");
+            };
+            assert_eq!(again, program(code, start, end));
+            assert_eq!((&payload[data_place], &payload[suffix_place]), (&data[..], &suffix[..]));
+            payload
+        });
+        assert_eq!((flash[1], eeprom[1]), (0x00, 0x01));
+        flash[1] = 0x01;
+        assert_eq!(flash, eeprom);
     }
 }
 
@@ -1595,12 +1789,12 @@ fn writing_back_what_the_board_takes() {
 /// and often a little off.
 fn any_payload(random: &mut Xorshift) -> Vec<u8> {
     let command = any_command(random);
-    let mut payload = match command {
-        Command::Program { memory, start, end } => {
+    let mut payload = match program_parts(command) {
+        Some((code, start, end)) => {
             let bytes = random.bytes(usize::from(end - start) + 1);
-            transfer(if memory == Memory::Flash { 0 } else { 1 }, start, end, &bytes, 0)
+            transfer(code, start, end, &bytes, 0)
         }
-        _ => written(command, &[], &[], 6).unwrap(),
+        None => written(command, &[], &[], 6).unwrap(),
     };
     match random.below(6) {
         0 => {
@@ -1931,6 +2125,47 @@ fn a_program_transfer_through_the_bench() {
         "job 7\n1 done 3 00 9 -\n2 done 5 00 0 000000000500\n3 done 3 00 0 -\n\
          4 done 5 00 0 000000000500\n5 done 2 00 0 {read}\n6 stall 10 0F 0 -\n\
          7 done 10 0F 0 0F0000000A00\n"
+    );
+    assert_eq!(printed(&file), want);
+}
+
+/// P4: "twice someone passed the wrong one in the bench code". Two bytes over a page's
+/// edge go to flash, two others to the same addresses of the EEPROM, and both are read
+/// back, "03h, 00h flash or 02h EEPROM".
+#[test]
+fn both_memories_through_the_bench() {
+    let data = |payload: Vec<u8>| request(dnload(payload.len()), &payload);
+    let file = [
+        data(transfer(FLASH, 0x007F, 0x0080, &[0x12, 0x34], 0)),
+        request(GETSTATUS, &[]),
+        data(transfer(EEPROM, 0x007F, 0x0080, &[0x56, 0x78], 0)),
+        request(GETSTATUS, &[]),
+        data(ranged(0x03, 0x00, 0x007E, 0x0081)),
+        request(GETSTATUS, &[]),
+        request(upload(4), &[]),
+        data(ranged(0x03, 0x02, 0x007E, 0x0081)),
+        request(GETSTATUS, &[]),
+        request(upload(4), &[]),
+        data(transfer(FLASH, 0x0400, 0x0400, &[0x9A], 0)),
+        request(GETSTATUS, &[]),
+        data(transfer(EEPROM, 0x0400, 0x0400, &[0x9A], 0)),
+    ]
+    .concat();
+    let want = concat!(
+        "job 13\n",
+        "1 done 3 00 2 -\n",
+        "2 done 5 00 0 000000000500\n",
+        "3 done 3 00 0 -\n",
+        "4 done 5 00 0 000000000500\n",
+        "5 done 3 00 0 -\n",
+        "6 done 5 00 0 000000000500\n",
+        "7 done 2 00 0 FF1234FF\n",
+        "8 done 3 00 0 -\n",
+        "9 done 5 00 0 000000000500\n",
+        "10 done 2 00 0 FF5678FF\n",
+        "11 done 3 00 1 -\n",
+        "12 done 5 00 0 000000000500\n",
+        "13 done 10 08 0 -\n",
     );
     assert_eq!(printed(&file), want);
 }
