@@ -123,7 +123,7 @@ impl Program for Second {
     }
 
     fn write(start: u16, end: u16, body: &[u8], suffix: &[u8], room: &mut [u8]) -> usize {
-        let command = second::Command::Program { memory: second::Memory::Flash, start, end };
+        let command = second::Command::ProgramFlash { start: second::FlashAddress(start), end: second::FlashAddress(end) };
         second::write_command(command, body, suffix, room).unwrap_or(0)
     }
 

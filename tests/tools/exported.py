@@ -50,8 +50,8 @@ SESSION = {
     "StartKind::AtAddress": "a start at an address",
 }
 COMMAND = {
-    "Command::Program Range::Flash": "program flash", "Command::Program Range::Eeprom": "program EEPROM",
-    "Command::Read Range::Flash": "read flash", "Command::Read Range::Eeprom": "read EEPROM",
+    "Command::ProgramFlash": "program flash", "Command::ProgramEeprom": "program EEPROM",
+    "Range::Flash": "read flash", "Range::Eeprom": "read EEPROM",
     "Command::BlankCheck": "blank check of flash", "Block::Low": "erase 0000h-1FFFh", "Block::Middle": "erase 2000h-3FFFh",
     "Block::High": "erase 4000h-7FFFh", "Command::EraseChip": "erase the full chip", "Command::WriteByte": "write configuration byte",
     "Command::WriteHsb": "write HSB", "Command::StartReset": "start by reset", "Command::StartAt": "start at an address",
@@ -124,14 +124,10 @@ def from_code(read):
     pairs = re.findall(r"two_bytes\(config\.(\w+), config\.(\w+)\)", config)
     eight = [named(start + half * byte, byte, CONFIG[pair[half]]) for start, pair in zip(starts, pairs) for half in (0, 1)]
 
-    of_range = {arm: words.split(",")[0].strip() for arm, words in ARM.findall(command) if arm.startswith("Range::")}
-    more = {arm: int(first == "(kind as u16) + 1") for arm, first in of_range.items()}
-    commands = [(int(kind) + more[memory], COMMAND[f"{arm} {memory}"], "start", "end")
-                for arm, kind in re.findall(r"(Command::\w+)\(range\) => pack_range\((\d+), range\)", command) for memory in more]
+    commands = []
     for arm, words in ARM.findall(command):
-        if not arm.startswith("Range::"):
-            kind, b, c, _ = map(str.strip, words.split(","))
-            commands.append((int(kind), COMMAND[arm], field(b), field(c)))
+        kind, b, c, _ = map(str.strip, words.split(","))
+        commands.append((int(kind), COMMAND[arm], field(b), field(c)))
 
     outcomes = sorted((int(kind), OUTCOME[arm], field(b)) for arm, words in ARM.findall(outcome) for kind, b in [words.split(", ")[:2]])
     return {

@@ -1,4 +1,4 @@
--- Laws of a program transfer's layout.
+-- Laws of a program transfer's layout, for either memory.
 -- Assumes nothing.
 use mathlib.Core.Path.{_≡_}
 use mathlib.Core.Bool.{false}
@@ -8,18 +8,21 @@ use native.Mathlib.Omega.{arith}
 use lib.ListN.{length, drop, length-drop}
 use lib.Seq.{length-take-le}
 use borrow.Author.Tests.{eqb-true, not-false}
-use Rattle.memory.specs.declared.address.Range.{Range}
-use Rattle.memory.specs.Memory.{rangeCount}
-use Rattle.command.specs.Form.{Program}
-use Rattle.command.specs.Transfer.{transferLength, bodyPlace, bodyOf, badLength}
+use Rattle.words.specs.Words.{count}
+use Rattle.command.specs.Transfer.{Of, transferLength, bodyPlace, suffixPlace, bodyOf, wrongTransfer}
 use Rattle.command.proofs.AddressLaws.{Good}
 
 -- "wLength 1 to 1,103": no transfer of a good range is longer
-pub transferLength-le : (r : Range) → Good r → transferLength r ≤ 1103
-transferLength-le r g = omega arith
+pub transferLength-le : (size a e : ℕ) → Good size a e → transferLength a e ≤ 1103
+transferLength-le size a e g = omega arith
 
--- a transfer of the right length has as many bytes as its range
-pub length-bodyOf : (r : Range) (d : List ℕ) → badLength (Program r) d ≡ false → length (bodyOf r d) ≡ rangeCount r
-length-bodyOf r d q =
-    let l : length d ≡ transferLength r = eqb-true _ _ (not-false _ q) in
-    length-take-le (rangeCount r) (drop (bodyPlace r) d) (simp length-drop (omega arith))
+-- a transfer of the right length has as many bytes as its range, and its suffix begins inside it
+module _ (a e : ℕ) (d : List ℕ) (right : wrongTransfer (Of a e) (length d) ≡ false) where
+  pub right-length : length d ≡ transferLength a e
+  right-length = eqb-true _ _ (not-false _ right)
+
+  pub length-bodyOf : length (bodyOf a e d) ≡ count a e
+  length-bodyOf = length-take-le (count a e) (drop (bodyPlace a) d) (simp length-drop (omega (arith, right-length)))
+
+  pub suffix-inside : suffixPlace a e ≤ length d
+  suffix-inside = omega (arith, right-length)

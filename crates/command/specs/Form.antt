@@ -17,8 +17,8 @@ use Rattle.config.specs.Config.{readable, writable}
 pub use Rattle.command.specs.declared.form.Form.{Form}
 pub use Rattle.command.specs.declared.form.Form.the-variants.{Is, Unlisted}
 pub use Rattle.command.specs.declared.command.Command.{Command}
-pub use Rattle.command.specs.declared.command.Command.the-variants.{Program, Read, BlankCheck, EraseBlock, EraseChip, WriteByte, WriteHsb, StartReset}
-pub use Rattle.command.specs.declared.command.Command.the-variants.{StartAt, ReadVersion, ReadByte, ReadHsb}
+pub use Rattle.command.specs.declared.command.Command.the-variants.{ProgramFlash, ProgramEeprom, Read, BlankCheck, EraseBlock, EraseChip, WriteByte}
+pub use Rattle.command.specs.declared.command.Command.the-variants.{WriteHsb, StartReset, StartAt, ReadVersion, ReadByte, ReadHsb}
 
 -- "Addresses .. are high byte first": the address that stands at i
 abbrev pub flashAt : List ℕ → ℕ → FlashAddress
@@ -71,6 +71,13 @@ third right k = if right then k else none
 abbrev pub zeroThird : ℕ → List ℕ → Command → Option Command
 zeroThird n d k = third (eqb (byteAt d 2) 0x00) (exactly n d k)
 
+-- "01h, 00h flash or 01h EEPROM, start, end, then the rest": each memory by a command of its own, over its own addresses
+abbrev pub programFlashForm : List ℕ → Option Command
+programFlashForm d = sixOrMore d (ProgramFlash (flashAt d 2) (flashAt d 4))
+
+abbrev pub programEepromForm : List ℕ → Option Command
+programEepromForm d = sixOrMore d (ProgramEeprom (eepromAt d 2) (eepromAt d 4))
+
 -- "03h, 01h, start, end"
 abbrev pub blankForm : List ℕ → Option Command
 blankForm d = exactly 6 d (BlankCheck (flashAt d 2) (flashAt d 4))
@@ -86,8 +93,8 @@ indexForm d = third (readable (byteAt d 2)) (exactly 3 d (ReadByte (byteAt d 2))
 -- the rows of the table by their first two bytes, "01h, 00h" being 0100h; "unlisted codes and lengths stall": none
 abbrev pub row : ℕ → List ℕ → Option Command
 row code d =
-    if eqb code 0x0100 then sixOrMore d (Program (flashRange d)) else
-    if eqb code 0x0101 then sixOrMore d (Program (eepromRange d)) else
+    if eqb code 0x0100 then programFlashForm d else
+    if eqb code 0x0101 then programEepromForm d else
     if eqb code 0x0300 then exactly 6 d (Read (flashRange d)) else
     if eqb code 0x0302 then exactly 6 d (Read (eepromRange d)) else
     if eqb code 0x0301 then blankForm d else

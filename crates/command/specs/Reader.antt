@@ -26,7 +26,7 @@ parts b s = record { body = b; suffix = s }
 
 -- where a program transfer's bytes and its suffix lie; no other command has any. The data is n bytes
 abbrev pub transferParts : Transfer → ℕ → Parts
-transferParts (Of r) n = parts (bodyPlace r) (suffixPlace r)
+transferParts (Of a e) n = parts (bodyPlace a) (suffixPlace a e)
 transferParts NoTransfer n = parts n n
 
 abbrev pub partsFor : Command → ℕ → Parts

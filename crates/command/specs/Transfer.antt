@@ -1,14 +1,14 @@
--- The layout of a program transfer: "32 bytes of command (26 not looked at), X pad bytes, the n bytes, 16 suffix bytes".
+-- The layout of a program transfer: "32 bytes of command (26 not looked at), X pad bytes, the n bytes, 16 suffix bytes". It is the same
+-- for both memories, and goes by the numbers of the first address and the last, a and e.
 -- Assumes nothing: these are definitions.
 use mathlib.Core.Bool.{Bool, false, not}
 use mathlib.Core.List.{List}
 use Prim.Native.Nat.{ℕ, _+_, _%_}
 use lib.Dec.{eqb}
 use lib.ListN.{length, take, drop}
-use Rattle.memory.specs.declared.address.Range.{Range}
-use Rattle.memory.specs.Memory.{rangeStart, rangeCount}
-use Rattle.command.specs.Form.{Command, Program, Read, BlankCheck, EraseBlock, EraseChip, WriteByte, WriteHsb, StartReset, StartAt, ReadVersion, ReadByte}
-use Rattle.command.specs.Form.{ReadHsb}
+use Rattle.words.specs.Words.{count}
+use Rattle.command.specs.Form.{Command, ProgramFlash, ProgramEeprom, Read, BlankCheck, EraseBlock, EraseChip, WriteByte, WriteHsb, StartReset, StartAt}
+use Rattle.command.specs.Form.{ReadVersion, ReadByte, ReadHsb}
 pub use Rattle.command.specs.declared.transfer.Transfer.{Transfer}
 pub use Rattle.command.specs.declared.transfer.Transfer.the-variants.{Of, NoTransfer}
 
@@ -27,26 +27,27 @@ abbrev pub padding : ℕ → ℕ
 padding a = a % 32
 
 -- where the n bytes begin, and where the suffix does
-abbrev pub bodyPlace : Range → ℕ
-bodyPlace r = commandSize + padding (rangeStart r)
+abbrev pub bodyPlace : ℕ → ℕ
+bodyPlace a = commandSize + padding a
 
-abbrev pub suffixPlace : Range → ℕ
-suffixPlace r = bodyPlace r + rangeCount r
+abbrev pub suffixPlace : ℕ → ℕ → ℕ
+suffixPlace a e = bodyPlace a + count a e
 
 -- "48 + X + n"
-abbrev pub transferLength : Range → ℕ
-transferLength r = 48 + padding (rangeStart r) + rangeCount r
+abbrev pub transferLength : ℕ → ℕ → ℕ
+transferLength a e = 48 + padding a + count a e
 
 -- the n bytes of a transfer, and its suffix
-abbrev pub bodyOf : Range → List ℕ → List ℕ
-bodyOf r d = take (rangeCount r) (drop (bodyPlace r) d)
+abbrev pub bodyOf : ℕ → ℕ → List ℕ → List ℕ
+bodyOf a e d = take (count a e) (drop (bodyPlace a) d)
 
-abbrev pub suffixOf : Range → List ℕ → List ℕ
-suffixOf r d = drop (suffixPlace r) d
+abbrev pub suffixOf : ℕ → ℕ → List ℕ → List ℕ
+suffixOf a e d = drop (suffixPlace a e) d
 
--- the range that a program transfer carries bytes for; no other command is one
+-- the addresses that a program transfer carries bytes for; no other command is one
 abbrev pub transferOf : Command → Transfer
-transferOf (Program r) = Of r
+transferOf (ProgramFlash a e) = Of (a .0) (e .0)
+transferOf (ProgramEeprom a e) = Of (a .0) (e .0)
 transferOf (Read r) = NoTransfer
 transferOf (BlankCheck a e) = NoTransfer
 transferOf (EraseBlock k) = NoTransfer
@@ -61,7 +62,7 @@ transferOf ReadHsb = NoTransfer
 
 -- "and for program at last its whole length", of data of n bytes
 abbrev pub wrongTransfer : Transfer → ℕ → Bool
-wrongTransfer (Of r) n = not (eqb n (transferLength r))
+wrongTransfer (Of a e) n = not (eqb n (transferLength a e))
 wrongTransfer NoTransfer n = false
 
 abbrev pub wrongLength : Command → ℕ → Bool

@@ -1,7 +1,7 @@
 // The form of DNLOAD data: which command it is, by its first bytes and its length.
 ghost use mathlib.Core.Path.{_≡_};
-ghost use Rattle.command.specs.Form.{form, formOf, exactly, sixOrMore, zeroThird, flashRange, eepromRange};
-ghost use Rattle.command.specs.Form.{blankForm, eraseForm, writeForm, startForm, indexForm};
+ghost use Rattle.command.specs.Form.{form, formOf, exactly, sixOrMore, zeroThird, flashAt, eepromAt, flashRange, eepromRange};
+ghost use Rattle.command.specs.Form.{programFlashForm, programEepromForm, blankForm, eraseForm, writeForm, startForm, indexForm};
 use crate::command::Command;
 use memory::Block;
 use memory::EepromAddress;
@@ -17,23 +17,30 @@ pub enum Form {
     Unlisted,
 }
 
+// The address of flash, and of EEPROM, that stands at a place.
+fn flash_at(sent: &[u8], at: u16) -> FlashAddress
+    ensures { λ r. ⌜ r ≡ flashAt (now (sent .entry)) at ⌝ }
+{
+    FlashAddress(words::high_at(sent, at))
+}
+
+fn eeprom_at(sent: &[u8], at: u16) -> EepromAddress
+    ensures { λ r. ⌜ r ≡ eepromAt (now (sent .entry)) at ⌝ }
+{
+    EepromAddress(words::high_at(sent, at))
+}
+
 // The range of flash, and of EEPROM, after the first two bytes.
 fn flash_range(sent: &[u8]) -> Range
     ensures { λ r. ⌜ r ≡ flashRange (now (sent .entry)) ⌝ }
 {
-    Range::Flash(
-        FlashAddress(words::high_at(sent, 2)),
-        FlashAddress(words::high_at(sent, 4)),
-    )
+    Range::Flash(flash_at(sent, 2), flash_at(sent, 4))
 }
 
 fn eeprom_range(sent: &[u8]) -> Range
     ensures { λ r. ⌜ r ≡ eepromRange (now (sent .entry)) ⌝ }
 {
-    Range::Eeprom(
-        EepromAddress(words::high_at(sent, 2)),
-        EepromAddress(words::high_at(sent, 4)),
-    )
+    Range::Eeprom(eeprom_at(sent, 2), eeprom_at(sent, 4))
 }
 
 // A command whose data has to be n bytes.
@@ -67,11 +74,27 @@ fn zero_third(sent: &[u8], n: usize, command: Command) -> Form
     exact(sent, n, command)
 }
 
+fn program_flash_form(sent: &[u8]) -> Form
+    ensures { λ r. ⌜ r ≡ formOf (programFlashForm (now (sent .entry))) ⌝ }
+{
+    let start = flash_at(sent, 2);
+    let end = flash_at(sent, 4);
+    six_or_more(sent, Command::ProgramFlash(start, end))
+}
+
+fn program_eeprom_form(sent: &[u8]) -> Form
+    ensures { λ r. ⌜ r ≡ formOf (programEepromForm (now (sent .entry))) ⌝ }
+{
+    let start = eeprom_at(sent, 2);
+    let end = eeprom_at(sent, 4);
+    six_or_more(sent, Command::ProgramEeprom(start, end))
+}
+
 fn blank_form(sent: &[u8]) -> Form
     ensures { λ r. ⌜ r ≡ formOf (blankForm (now (sent .entry))) ⌝ }
 {
-    let start = FlashAddress(words::high_at(sent, 2));
-    let end = FlashAddress(words::high_at(sent, 4));
+    let start = flash_at(sent, 2);
+    let end = flash_at(sent, 4);
     exact(sent, 6, Command::BlankCheck(start, end))
 }
 
@@ -105,11 +128,7 @@ fn start_form(sent: &[u8]) -> Form
     let code = words::byte_at(sent, 2);
     match code {
         0x00 => exact(sent, 3, Command::StartReset),
-        0x01 => exact(
-            sent,
-            5,
-            Command::StartAt(FlashAddress(words::high_at(sent, 3))),
-        ),
+        0x01 => exact(sent, 5, Command::StartAt(flash_at(sent, 3))),
         _ => Form::Unlisted,
     }
 }
@@ -124,7 +143,7 @@ fn index_form(sent: &[u8]) -> Form
     Form::Unlisted
 }
 
-// The command that the data is, by its form alone.
+// The command that the data is, by its form alone. Here alone a code chooses the memory that is programmed.
 pub fn form_of(sent: &[u8]) -> Form
     ensures { λ r. ⌜ r ≡ formOf (form (now (sent .entry))) ⌝ }
 {
@@ -133,8 +152,8 @@ pub fn form_of(sent: &[u8]) -> Form
     }
     let code = words::high_at(sent, 0);
     match code {
-        0x0100 => six_or_more(sent, Command::Program(flash_range(sent))),
-        0x0101 => six_or_more(sent, Command::Program(eeprom_range(sent))),
+        0x0100 => program_flash_form(sent),
+        0x0101 => program_eeprom_form(sent),
         0x0300 => exact(sent, 6, Command::Read(flash_range(sent))),
         0x0302 => exact(sent, 6, Command::Read(eeprom_range(sent))),
         0x0301 => blank_form(sent),

@@ -20,6 +20,7 @@ pub use reader::read_command;
 pub use reader::reading_status;
 pub use transfer::Transfer;
 pub use transfer::body_place;
+pub use transfer::bytes_between;
 pub use transfer::range_count;
 pub use transfer::transfer_of;
 pub use transfer::wrong_length;

@@ -9,7 +9,7 @@ use crate::form::Form;
 use crate::form::form_of;
 use crate::transfer::Transfer;
 use crate::transfer::body_place;
-use crate::transfer::range_count;
+use crate::transfer::bytes_between;
 use crate::transfer::transfer_of;
 use crate::transfer::wrong_length;
 
@@ -43,12 +43,10 @@ pub fn parts_of(command: Command, n: usize) -> Parts
     ensures { λ r. ⌜ r ≡ partsFor command n ⌝ }
 {
     match transfer_of(command) {
-        Transfer::Of(range) => {
-            let body = body_place(range);
-            Parts {
-                body,
-                suffix: body + range_count(range),
-            }
+        Transfer::Of(start, end) => {
+            let body = body_place(start);
+            let suffix = body + bytes_between(start, end);
+            Parts { body, suffix }
         }
         Transfer::NoTransfer => Parts { body: n, suffix: n },
     }

@@ -9,13 +9,14 @@ use crate::SUFFIX_SIZE;
 use crate::command::Command;
 use memory::Range;
 
-// Whether a command is a program transfer.
+// Whether a command is a program transfer: one from this address to that one, whichever memory they are of. The layout is the same for
+// both memories, so that the addresses are plain numbers here.
 pub enum Transfer {
-    Of(Range),
+    Of(u16, u16),
     NoTransfer,
 }
 
-// How many bytes a range has, both ends in it; 0 for one that is backward.
+// How many bytes a range to read has, both ends in it; 0 for one that is backward.
 pub fn range_count(range: Range) -> usize
     ensures { λ r. ⌜ r ≡ rangeCount range ⌝ }
     ensures { λ r. ⌜ r ≤ 65536 ⌝ }
@@ -26,8 +27,8 @@ pub fn range_count(range: Range) -> usize
     }
 }
 
-// How many bytes stand from one address to another, both of them counted.
-fn bytes_between(start: u16, end: u16) -> usize
+// How many bytes stand from one address to another, both of them counted; 0 where the first is past the other.
+pub fn bytes_between(start: u16, end: u16) -> usize
     ensures { λ r. ⌜ r ≡ count start end ⌝ }
     ensures { λ r. ⌜ r ≤ 65536 ⌝ }
 {
@@ -40,21 +41,19 @@ fn bytes_between(start: u16, end: u16) -> usize
 }
 
 // Where the n bytes of a transfer begin, after the command and X pad bytes, X being start mod 32.
-pub fn body_place(range: Range) -> usize
-    ensures { λ r. ⌜ r ≡ bodyPlace range ⌝ }
+pub fn body_place(start: u16) -> usize
+    ensures { λ r. ⌜ r ≡ bodyPlace start ⌝ }
 {
-    match range {
-        Range::Flash(start, _) => COMMAND_SIZE + ((start.0 % 32) as usize),
-        Range::Eeprom(start, _) => COMMAND_SIZE + ((start.0 % 32) as usize),
-    }
+    COMMAND_SIZE + ((start % 32) as usize)
 }
 
-// The range that a program transfer carries bytes for; no other command is one.
+// The addresses that a program transfer carries bytes for; no other command is one.
 pub fn transfer_of(command: Command) -> Transfer
     ensures { λ r. ⌜ r ≡ transferOf command ⌝ }
 {
     match command {
-        Command::Program(range) => Transfer::Of(range),
+        Command::ProgramFlash(start, end) => Transfer::Of(start.0, end.0),
+        Command::ProgramEeprom(start, end) => Transfer::Of(start.0, end.0),
         _ => Transfer::NoTransfer,
     }
 }
@@ -64,7 +63,8 @@ pub fn wrong_length(command: Command, n: usize) -> bool
     ensures { λ r. ⌜ r ≡ wrongLength command n ⌝ }
 {
     match transfer_of(command) {
-        Transfer::Of(range) => n != body_place(range) + range_count(range) + SUFFIX_SIZE,
+        Transfer::Of(start, end) => n
+            != body_place(start) + bytes_between(start, end) + SUFFIX_SIZE,
         Transfer::NoTransfer => false,
     }
 }

@@ -1,8 +1,10 @@
 // What an accepted command does.
 ghost use mathlib.Core.Path.{_≡_};
 ghost use mathlib.Core.Bool.{true};
+ghost use Prim.Native.Nat.{_≤_};
 ghost use lib.ListN.{length};
 ghost use Rattle.config.specs.Config.{readable, configByte};
+ghost use Rattle.command.specs.Transfer.{suffixPlace, bodyOf};
 ghost use Rattle.rules.specs.Session.{idle};
 ghost use Rattle.blank.specs.Blank.{usedIn};
 ghost use Rattle.rules.specs.Result.{board as boardOf, answer};
@@ -13,7 +15,6 @@ use command::Command;
 use config::ByteRead;
 use config::Config;
 use memory::FlashAddress;
-use memory::Range;
 use rules::Answer;
 use rules::Outcome;
 use rules::Pending;
@@ -65,16 +66,14 @@ fn byte_of(config: Config, index: u8) -> u8
     }
 }
 
-fn program(config: Config, range: Range, sent: &[u8], flash: &mut [u8], eeprom: &mut [u8]) -> Answer
-    requires { ⌜ Acceptable (Command.Program range) (now sent) (now flash) (now eeprom) ⌝ }
-    ensures { λ r. let b = boardOf idle config (now (flash .entry)) (now (eeprom .entry)) in
-        ⌜ Answered b (accept (Command.Program range) (performOf b (Command.Program range) (now (sent .entry))))
-        r (now (flash .exit)) (now (eeprom .exit)) ⌝ }
+// The n bytes of a program transfer, of either memory.
+fn body(sent: &[u8], start: u16, end: u16) -> &[u8]
+    requires { ⌜ suffixPlace start end ≤ length (now sent) ⌝ }
+    ensures { λ r. ⌜ now r ≡ bodyOf start end (now (sent .entry)) ⌝ }
 {
-    let body = command::body_place(range);
-    let suffix = body + command::range_count(range);
-    let pages = memory::program(range, &sent[body..suffix], flash, eeprom);
-    stores(config, pages)
+    let from = command::body_place(start);
+    let to = from + command::bytes_between(start, end);
+    &sent[from..to]
 }
 
 // The first byte that is not FFh is reported with 05h.
@@ -101,7 +100,15 @@ pub(crate) fn perform(
         ⌜ Answered b (accept command (performOf b command (now (sent .entry)))) r (now (flash .exit)) (now (eeprom .exit)) ⌝ }
 {
     match command {
-        Command::Program(range) => program(config, range, sent, flash, eeprom),
+        Command::ProgramFlash(start, end) => {
+            let bytes = body(sent, start.0, end.0);
+            stores(config, memory::program_flash(start, end, bytes, flash))
+        }
+        Command::ProgramEeprom(start, end) => {
+            let bytes = body(sent, start.0, end.0);
+            memory::program_eeprom(start, end, bytes, eeprom);
+            leaves(config, Pending::Nothing)
+        }
         Command::Read(range) => leaves(config, Pending::MemoryRead(range)),
         Command::BlankCheck(start, end) => blank_check(config, start, end, flash),
         Command::EraseBlock(block) => stores(config, memory::erase_block(flash, block)),

@@ -4,7 +4,8 @@
 use mathlib.Core.Path.{_≡_}
 use Rattle.words.proofs.OneAnswer.{one}
 use Rattle.memory.proofs.page.store_page.Reads as store-page
-use Rattle.memory.proofs.programming.program.Reads as program
+use Rattle.memory.proofs.programming.program_flash.Reads as program-flash
+use Rattle.memory.proofs.programming.program_eeprom.Reads as program-eeprom
 use Rattle.memory.proofs.programming.store_bytes.Reads as store-bytes
 use Rattle.memory.proofs.erase.erase_block.Reads as erase-block
 use Rattle.memory.proofs.erase.erase_chip.Reads as erase-chip
@@ -15,9 +16,13 @@ pub of-store-page : (κs : _) (a : _) (r r′ : _) (s s′ : _) → store-page.P
     → (r ≡ r′) × (s .0 .now ≡ s′ .0 .now)
 of-store-page κs a r r′ s s′ p q = (one (p .0) (q .0), one (p .1) (q .1))
 
-pub of-program : (κs : _) (a : _) (r r′ : _) (s s′ : _) → program.Post κs a r s → program.Post κs a r′ s′
-    → (r ≡ r′) × (s .1 .1 .0 .now ≡ s′ .1 .1 .0 .now) × (s .1 .1 .1 .0 .now ≡ s′ .1 .1 .1 .0 .now)
-of-program κs a r r′ s s′ p q = (one (p .0) (q .0), one (p .1 .0) (q .1 .0), one (p .1 .1) (q .1 .1))
+pub of-program-flash : (κs : _) (a : _) (r r′ : _) (s s′ : _) → program-flash.Post κs a r s → program-flash.Post κs a r′ s′
+    → (r ≡ r′) × (s .1 .1 .1 .0 .now ≡ s′ .1 .1 .1 .0 .now)
+of-program-flash κs a r r′ s s′ p q = (one (p .0) (q .0), one (p .1) (q .1))
+
+pub of-program-eeprom : (κs : _) (a : _) (r r′ : _) (s s′ : _) → program-eeprom.Post κs a r s → program-eeprom.Post κs a r′ s′
+    → (r ≡ r′) × (s .1 .1 .1 .0 .now ≡ s′ .1 .1 .1 .0 .now)
+of-program-eeprom κs a r r′ s s′ p q = (one (p .0) (q .0), one (p .1) (q .1))
 
 pub of-store-bytes : (κs : _) (a : _) (r r′ : _) (s s′ : _) → store-bytes.Post κs a r s → store-bytes.Post κs a r′ s′
     → (r ≡ r′) × (s .0 .now ≡ s′ .0 .now)

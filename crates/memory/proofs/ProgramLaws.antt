@@ -1,18 +1,18 @@
--- When a range of a memory can be programmed, and what bytes stored in the flash of any board leave, over every size.
+-- When a range of a memory can be programmed, what that leaves, and what bytes stored in the flash of any board leave, over every size.
 -- Assumes nothing.
-use mathlib.Core.Path.{_≡_}
-use mathlib.Core.Bool.{true, _&&_, and-eq-true-iff}
-use mathlib.Core.List.{List}
+use mathlib.Core.Path.{_≡_, refl, sym, ap, _∙_, subst}
+use mathlib.Core.Bool.{Bool, true, false, not, _&&_, and-eq-true-iff}
+use mathlib.Core.List.{List, []}
 use Prim.Native.Nat.{ℕ, _+_, _-_, _%_, _/_, _≤_, _<_}
 use native.Mathlib.Omega.{arith}
 use lib.Dec.{eqb, leb, ltb}
 use lib.ListN.{length}
-use borrow.Author.Tests.{eq-eqb, le-leb, lt-ltb, eqb-true, leb-true, ltb-true}
+use borrow.Author.Tests.{eq-eqb, le-leb, lt-ltb, eqb-true, leb-true, ltb-true, not-true, not-false}
 use Rattle.words.specs.Words.{count, overlay, Programmed}
 use Rattle.words.proofs.WordsLaws.{overlay-programmed}
-use Rattle.memory.specs.Memory.{FlashAddress, pageSize, mostFlash}
-use Rattle.memory.specs.Pages.{storeAll, pagesMet}
-use Rattle.memory.specs.Program.{programmable, storable, bytesStores}
+use Rattle.memory.specs.Memory.{FlashAddress, flashSize, flashPages, eepromSize, pageSize, mostFlash}
+use Rattle.memory.specs.Pages.{storeAll, programStores, pagesMet}
+use Rattle.memory.specs.Program.{programmable, memoryAfter, flashStores, Programs, ProgramApart, storable, bytesStores}
 use Rattle.memory.proofs.PagesLaws.{storeAll-programStores, length-programStores}
 
 pub record Fit (size a e : ℕ) (d m : List ℕ) : Type 0 where
@@ -37,6 +37,61 @@ programmable-fit size a e d m t =
       inside = ltb-true e size (three .1);
       right-count = eqb-true (length d) (count a e) (four .1);
     }
+
+-- by the answer r to whether a range can be programmed
+module _ (size a e : ℕ) (d m : List ℕ) (r : Bool) (told : r ≡ programmable size a e d m) where
+  pub told-not : not r ≡ true → programmable size a e d m ≡ false
+  told-not h = sym told ∙ not-true r h
+
+  pub told-fit : not r ≡ false → Fit size a e d m
+  told-fit h = programmable-fit size a e d m (sym told ∙ not-false r h)
+
+module _ (size a e : ℕ) (d m : List ℕ) where
+  pub memoryAfter-not : programmable size a e d m ≡ false → memoryAfter size a e d m ≡ m
+  unfolding memoryAfter
+  memoryAfter-not t = rw t
+
+  pub memoryAfter-fit : Fit size a e d m → memoryAfter size a e d m ≡ overlay a d m
+  unfolding memoryAfter
+  memoryAfter-fit f = rw (fit size a e d m f)
+
+  -- the shared fact
+  pub memoryAfter-programs : Programs size a e d m (memoryAfter size a e d m)
+  memoryAfter-programs = record {
+    right = λ t.
+        let f = programmable-fit size a e d m t in
+        subst (Programmed a d m) (sym (memoryAfter-fit f)) (overlay-programmed a d m (omega (arith, f)));
+    wrong = memoryAfter-not;
+  }
+
+module _ (a e : FlashAddress) (d m : List ℕ) where
+  pub flashStores-not : programmable flashSize (a .0) (e .0) d m ≡ false → flashStores a e d m ≡ []
+  unfolding flashStores
+  flashStores-not t = rw t
+
+  pub flashStores-fit : Fit flashSize (a .0) (e .0) d m → flashStores a e d m ≡ programStores (a .0) (e .0) d m
+  unfolding flashStores
+  flashStores-fit f = rw (fit flashSize (a .0) (e .0) d m f)
+
+  -- the stores, made, leave the flash as that many bytes leave a memory of its size
+  pub storeAll-flashStores : storeAll (flashStores a e d m) m ≡ memoryAfter flashSize (a .0) (e .0) d m
+  storeAll-flashStores = by (programmable flashSize (a .0) (e .0) d m) refl
+    where
+      by : (t : Bool) → programmable flashSize (a .0) (e .0) d m ≡ t → storeAll (flashStores a e d m) m ≡ memoryAfter flashSize (a .0) (e .0) d m
+      by false q = ap (λ x. storeAll x m) (flashStores-not q) ∙ sym (memoryAfter-not flashSize (a .0) (e .0) d m q)
+      by true q =
+          let f = programmable-fit flashSize (a .0) (e .0) d m q in
+          let inside : e .0 < length m = omega (arith, f) in
+          ap (λ x. storeAll x m) (flashStores-fit f)
+          ∙ storeAll-programStores (a .0) (e .0) d m flashPages (f .right-size) (f .forward) inside (f .right-count)
+          ∙ sym (memoryAfter-fit flashSize (a .0) (e .0) d m f)
+
+pub program-apart : ProgramApart
+program-apart = record {
+  flash = λ a e d m.
+      subst (Programs flashSize (a .0) (e .0) d m) (sym (storeAll-flashStores a e d m)) (memoryAfter-programs flashSize (a .0) (e .0) d m);
+  eeprom = λ a e d m. memoryAfter-programs eepromSize (a .0) (e .0) d m;
+}
 
 -- some bytes that don't pass the memory's end, and a memory of whole pages that isn't too long
 module _ (a : FlashAddress) (d m : List ℕ) (any : 0 < length d) (inside : a .0 + length d ≤ length m) (whole : length m % pageSize ≡ 0)

@@ -1,23 +1,44 @@
--- Programming a range of a memory, for every memory, range and bytes. Assumes nothing: these are definitions.
-use mathlib.Core.Bool.{Bool, _&&_}
+-- Programming a range of flash and a range of EEPROM, for every memory, range and bytes. P4 of 02: "two public operations, each over its
+-- own address kind, with the shared fact proved once over the size". Assumes nothing: these are definitions.
+use mathlib.Core.Path.{_≡_}
+use mathlib.Core.Bool.{Bool, true, false, _&&_}
 use mathlib.Core.List.{List, []}
 use Prim.Native.Nat.{ℕ, _+_, _-_, _%_}
 use lib.Dec.{eqb, leb, ltb}
 use lib.ListN.{length}
-use Rattle.words.specs.Words.{if_then_else_, count, overlay}
-use Rattle.memory.specs.Memory.{FlashAddress, EepromAddress, Range, Flash, Eeprom, flashSize, pageSize, mostFlash, eepromSize}
+use Rattle.words.specs.Words.{if_then_else_, count, overlay, Programmed}
+use Rattle.memory.specs.Memory.{FlashAddress, EepromAddress, flashSize, pageSize, mostFlash, eepromSize}
 use Rattle.memory.specs.Pages.{Store, storeAll, programStores}
 
 -- a memory of its size, a forward range inside it, and as many bytes as the range has
 abbrev pub programmable : ℕ → ℕ → ℕ → List ℕ → List ℕ → Bool
 programmable size a e d m = eqb (length m) size && leb a e && ltb e size && eqb (length d) (count a e)
 
--- the page stores that program a range of flash, and the EEPROM after a range of it was programmed; nothing else is programmed
+-- a memory of this size after the bytes d were programmed over its range a to e; nothing else is programmed
+unfoldable pub memoryAfter : ℕ → ℕ → ℕ → List ℕ → List ℕ → List ℕ
+memoryAfter size a e d m = if programmable size a e d m then overlay a d m else m
+
+-- the page stores that program a range of flash; nothing else is stored
 unfoldable pub flashStores : FlashAddress → FlashAddress → List ℕ → List ℕ → List Store
 flashStores a e d m = if programmable flashSize (a .0) (e .0) d m then programStores (a .0) (e .0) d m else []
 
-unfoldable pub eepromAfter : EepromAddress → EepromAddress → List ℕ → List ℕ → List ℕ
-eepromAfter a e d m = if programmable eepromSize (a .0) (e .0) d m then overlay (a .0) d m else m
+-- the EEPROM after a range of it was programmed
+abbrev pub eepromAfter : EepromAddress → EepromAddress → List ℕ → List ℕ → List ℕ
+eepromAfter a e d m = memoryAfter eepromSize (a .0) (e .0) d m
+
+-- ---- what both leave, over the size
+
+-- "Programmed bytes take the new values and all others stay."; where the memory has not its size, the range is backward or outside, or
+-- the bytes are not as many as the range has, every byte stays
+pub record Programs (size a e : ℕ) (d before after : List ℕ) : Type 0 where
+  pub right : programmable size a e d before ≡ true → Programmed a d before after
+  pub wrong : programmable size a e d before ≡ false → after ≡ before
+
+pub record ProgramApart : Type 0 where
+  pub flash : (a e : FlashAddress) (d m : List ℕ) → Programs flashSize (a .0) (e .0) d m (storeAll (flashStores a e d m) m)
+  pub eeprom : (a e : EepromAddress) (d m : List ℕ) → Programs eepromSize (a .0) (e .0) d m (eepromAfter a e d m)
+
+-- ---- bytes into the flash of any board
 
 -- for a flash of any board: some bytes that don't pass the memory's end, and a memory of whole pages that isn't too long
 abbrev pub storable : ℕ → List ℕ → List ℕ → Bool
@@ -26,16 +47,3 @@ storable a d m = ltb 0 (length d) && leb (a + length d) (length m) && eqb (lengt
 -- the page stores that lay the bytes d over such a flash from an address on; nothing else is stored
 unfoldable pub bytesStores : FlashAddress → List ℕ → List ℕ → List Store
 bytesStores a d m = if storable (a .0) d m then programStores (a .0) (a .0 + length d - 1) d m else []
-
--- by the memory that the range selects: pages stored, and each memory after it
-abbrev pub programmedPages : Range → List ℕ → List ℕ → ℕ
-programmedPages (Flash a e) d f = length (flashStores a e d f)
-programmedPages (Eeprom a e) d f = 0
-
-abbrev pub programmedFlash : Range → List ℕ → List ℕ → List ℕ
-programmedFlash (Flash a e) d f = storeAll (flashStores a e d f) f
-programmedFlash (Eeprom a e) d f = f
-
-abbrev pub programmedEeprom : Range → List ℕ → List ℕ → List ℕ
-programmedEeprom (Flash a e) d m = m
-programmedEeprom (Eeprom a e) d m = eepromAfter a e d m

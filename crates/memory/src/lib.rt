@@ -17,7 +17,8 @@ pub use erase::erase_block;
 pub use erase::erase_chip;
 pub use erase::erase_from;
 pub use page::store_page;
-pub use programming::program;
+pub use programming::program_eeprom;
+pub use programming::program_flash;
 pub use programming::store_bytes;
 pub use reading::read;
 

@@ -1,12 +1,12 @@
-// Programming a range of one of the two memories, and bytes into the flash of any board.
+// Programming a range of flash, and a range of EEPROM: two operations, each over its own addresses and lent its own memory alone. And
+// bytes into the flash of any board.
 ghost use mathlib.Core.Path.{_≡_};
 ghost use Prim.Native.Nat.{_+_, _-_, _*_, _%_, _≤_, _<_, min};
 ghost use lib.ListN.{length, take, drop};
 ghost use Rattle.words.specs.Words.{overlay};
-ghost use Rattle.memory.specs.Memory.{pageSize, mostFlash};
+ghost use Rattle.memory.specs.Memory.{pageSize, mostFlash, eepromSize};
 ghost use Rattle.memory.specs.Pages.{storeAll, pagesMet};
 ghost use Rattle.memory.specs.Program.{programmable, flashStores, eepromAfter, bytesStores};
-ghost use Rattle.memory.specs.Program.{programmedPages, programmedFlash, programmedEeprom};
 use crate::EEPROM_SIZE;
 use crate::FLASH_SIZE;
 use crate::MOST_FLASH;
@@ -14,7 +14,6 @@ use crate::PAGE_SIZE;
 use crate::address::EepromAddress;
 use crate::address::FlashAddress;
 use crate::address::Page;
-use crate::address::Range;
 use crate::page::page_after;
 use crate::page::store_page;
 use crate::page::store_whole;
@@ -118,8 +117,14 @@ fn is_programmable(size: usize, first: usize, last: usize, bytes: &[u8], memory:
     bytes.len() == last + 1 - first
 }
 
-// Programs a range of flash, and answers how many pages were stored; nothing is stored where it is not programmable.
-fn program_flash(start: FlashAddress, end: FlashAddress, bytes: &[u8], flash: &mut [u8]) -> usize
+// Programs a range of flash, and answers how many pages were stored: 0, with nothing programmed, where the flash has not its size,
+// the range is backward or outside, or the bytes are not as many as the range has.
+pub fn program_flash(
+    start: FlashAddress,
+    end: FlashAddress,
+    bytes: &[u8],
+    flash: &mut [u8],
+) -> usize
     ensures { λ r. ⌜ r ≡ length (flashStores start end (now (bytes .entry)) (now (flash .entry))) ⌝ }
     ensures { λ r. ⌜ now (flash .exit) ≡ storeAll (flashStores start end (now (bytes .entry)) (now (flash .entry))) (now (flash .entry)) ⌝ }
 {
@@ -129,29 +134,20 @@ fn program_flash(start: FlashAddress, end: FlashAddress, bytes: &[u8], flash: &m
     program_pages(flash, start, bytes)
 }
 
-// Programs a range of EEPROM; nothing is laid where it is not programmable.
-fn program_eeprom(start: EepromAddress, end: EepromAddress, bytes: &[u8], eeprom: &mut [u8])
+// Programs a range of EEPROM, and answers whether it did: not, with nothing programmed, where the EEPROM has not its size, the range
+// is backward or outside, or the bytes are not as many as the range has.
+pub fn program_eeprom(
+    start: EepromAddress,
+    end: EepromAddress,
+    bytes: &[u8],
+    eeprom: &mut [u8],
+) -> bool
+    ensures { λ r. ⌜ r ≡ programmable eepromSize (start .0) (end .0) (now (bytes .entry)) (now (eeprom .entry)) ⌝ }
     ensures { λ r. ⌜ now (eeprom .exit) ≡ eepromAfter start end (now (bytes .entry)) (now (eeprom .entry)) ⌝ }
 {
     let first = start.0 as usize;
     if !is_programmable(EEPROM_SIZE, first, end.0 as usize, bytes, eeprom) {
-        return;
+        return false;
     }
-    words::lay(eeprom, first, bytes);
-}
-
-// Programs a range of the memory that it selects, and answers how many pages were stored: none for EEPROM. Where that memory has
-// not its size, the range is backward or outside, or the bytes are not as many as the range has, nothing is programmed.
-pub fn program(range: Range, bytes: &[u8], flash: &mut [u8], eeprom: &mut [u8]) -> usize
-    ensures { λ r. ⌜ r ≡ programmedPages range (now (bytes .entry)) (now (flash .entry)) ⌝ }
-    ensures { λ r. ⌜ now (flash .exit) ≡ programmedFlash range (now (bytes .entry)) (now (flash .entry)) ⌝ }
-    ensures { λ r. ⌜ now (eeprom .exit) ≡ programmedEeprom range (now (bytes .entry)) (now (eeprom .entry)) ⌝ }
-{
-    match range {
-        Range::Flash(start, end) => program_flash(start, end, bytes, flash),
-        Range::Eeprom(start, end) => {
-            program_eeprom(start, end, bytes, eeprom);
-            0
-        }
-    }
+    words::lay(eeprom, first, bytes)
 }

@@ -6,8 +6,8 @@ use native.Mathlib.Omega.{arith}
 use lib.Dec.{lit≤}
 use Rattle.memory.specs.declared.address.Range.the-variants.{Flash, Eeprom}
 use Rattle.memory.specs.declared.address.Block.the-variants.{Low, Middle, High}
-use Rattle.command.specs.declared.command.Command.the-variants.{Program, Read, BlankCheck, EraseBlock, EraseChip, WriteByte, WriteHsb, StartReset, StartAt}
-use Rattle.command.specs.declared.command.Command.the-variants.{ReadVersion, ReadByte, ReadHsb}
+use Rattle.command.specs.declared.command.Command.the-variants.{ProgramFlash, ProgramEeprom, Read, BlankCheck, EraseBlock, EraseChip, WriteByte, WriteHsb}
+use Rattle.command.specs.declared.command.Command.the-variants.{StartReset, StartAt, ReadVersion, ReadByte, ReadHsb}
 use Rattle.rules.specs.declared.session.Pending.{Pending}
 use Rattle.rules.specs.declared.session.Pending.the-variants.{Nothing, MemoryRead, BlankReport, OneByte, Start}
 use Rattle.rules.specs.declared.session.StartKind.the-variants.{Reset, AtAddress}
@@ -97,8 +97,8 @@ session-kept s f =
 
 pub command-kept : CommandKept
 unfolding commandFor
-command-kept (Program (Flash a e)) f = let w = read4 0 (a .0) (e .0) 0 (lit≤ tt) (f .0) (f .1) (lit≤ tt) in rw (w .first, w .second, w .third)
-command-kept (Program (Eeprom a e)) f = let w = read4 1 (a .0) (e .0) 0 (lit≤ tt) (f .0) (f .1) (lit≤ tt) in rw (w .first, w .second, w .third)
+command-kept (ProgramFlash a e) f = let w = read4 0 (a .0) (e .0) 0 (lit≤ tt) (f .0) (f .1) (lit≤ tt) in rw (w .first, w .second, w .third)
+command-kept (ProgramEeprom a e) f = let w = read4 1 (a .0) (e .0) 0 (lit≤ tt) (f .0) (f .1) (lit≤ tt) in rw (w .first, w .second, w .third)
 command-kept (Read (Flash a e)) f = let w = read4 2 (a .0) (e .0) 0 (lit≤ tt) (f .0) (f .1) (lit≤ tt) in rw (w .first, w .second, w .third)
 command-kept (Read (Eeprom a e)) f = let w = read4 3 (a .0) (e .0) 0 (lit≤ tt) (f .0) (f .1) (lit≤ tt) in rw (w .first, w .second, w .third)
 command-kept (BlankCheck a e) f = let w = read4 4 (a .0) (e .0) 0 (lit≤ tt) (f .0) (f .1) (lit≤ tt) in rw (w .first, w .second, w .third)

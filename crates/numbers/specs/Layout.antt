@@ -10,8 +10,8 @@ use Rattle.memory.specs.declared.address.Block.{Block}
 use Rattle.memory.specs.declared.address.Block.the-variants.{Low, Middle, High}
 use Rattle.config.specs.declared.config.Config.{Config}
 use Rattle.command.specs.declared.command.Command.{Command}
-use Rattle.command.specs.declared.command.Command.the-variants.{Program, Read, BlankCheck, EraseBlock, EraseChip, WriteByte, WriteHsb, StartReset, StartAt}
-use Rattle.command.specs.declared.command.Command.the-variants.{ReadVersion, ReadByte, ReadHsb}
+use Rattle.command.specs.declared.command.Command.the-variants.{ProgramFlash, ProgramEeprom, Read, BlankCheck, EraseBlock, EraseChip, WriteByte, WriteHsb}
+use Rattle.command.specs.declared.command.Command.the-variants.{StartReset, StartAt, ReadVersion, ReadByte, ReadHsb}
 use Rattle.rules.specs.Session.{session}
 use Rattle.rules.specs.Result.{outcomeNumber, outcomeValue}
 use Rattle.rules.specs.declared.session.Session.{Session}
@@ -116,10 +116,10 @@ numberAfter (Refused n) lent new = lent
 
 -- ---- a command: its kind, then its numbers
 
--- a kind, or the next one for EEPROM, with start and end
-abbrev pub packRange : ℕ → Range → ℕ
-packRange kind (Flash a e) = packed kind (a .0) (e .0) 0
-packRange kind (Eeprom a e) = packed (kind + 1) (a .0) (e .0) 0
+-- a read of flash is kind 2 and one of EEPROM kind 3, with start and end
+abbrev pub packReading : Range → ℕ
+packReading (Flash a e) = packed 2 (a .0) (e .0) 0
+packReading (Eeprom a e) = packed 3 (a .0) (e .0) 0
 
 -- the three blocks are kinds 5, 6 and 7
 abbrev pub packBlock : Block → ℕ
@@ -128,8 +128,9 @@ packBlock Middle = packed 6 0 0 0
 packBlock High = packed 7 0 0 0
 
 abbrev pub packCommand : Command → ℕ
-packCommand (Program r) = packRange 0 r
-packCommand (Read r) = packRange 2 r
+packCommand (ProgramFlash a e) = packed 0 (a .0) (e .0) 0
+packCommand (ProgramEeprom a e) = packed 1 (a .0) (e .0) 0
+packCommand (Read r) = packReading r
 packCommand (BlankCheck a e) = packed 4 (a .0) (e .0) 0
 packCommand (EraseBlock k) = packBlock k
 packCommand EraseChip = packed 8 0 0 0
@@ -144,8 +145,8 @@ packCommand ReadHsb = packed 15 0 0 0
 -- any other kind counts as 15, and a number that a kind has no use for is not looked at
 unfoldable pub commandFor : ℕ → ℕ → ℕ → Command
 commandFor kind first last =
-    if eqb kind 0 then Program (Flash (flashAddress first) (flashAddress last)) else
-    if eqb kind 1 then Program (Eeprom (eepromAddress first) (eepromAddress last)) else
+    if eqb kind 0 then ProgramFlash (flashAddress first) (flashAddress last) else
+    if eqb kind 1 then ProgramEeprom (eepromAddress first) (eepromAddress last) else
     if eqb kind 2 then Read (Flash (flashAddress first) (flashAddress last)) else
     if eqb kind 3 then Read (Eeprom (eepromAddress first) (eepromAddress last)) else
     if eqb kind 4 then BlankCheck (flashAddress first) (flashAddress last) else

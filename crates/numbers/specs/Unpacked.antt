@@ -6,8 +6,8 @@ use Rattle.memory.specs.declared.address.Range.{Range}
 use Rattle.memory.specs.Memory.{rangeStart, rangeEnd}
 use Rattle.config.specs.declared.config.Config.{Config}
 use Rattle.command.specs.declared.command.Command.{Command}
-use Rattle.command.specs.declared.command.Command.the-variants.{Program, Read, BlankCheck, EraseBlock, EraseChip, WriteByte, WriteHsb, StartReset, StartAt}
-use Rattle.command.specs.declared.command.Command.the-variants.{ReadVersion, ReadByte, ReadHsb}
+use Rattle.command.specs.declared.command.Command.the-variants.{ProgramFlash, ProgramEeprom, Read, BlankCheck, EraseBlock, EraseChip, WriteByte, WriteHsb}
+use Rattle.command.specs.declared.command.Command.the-variants.{StartReset, StartAt, ReadVersion, ReadByte, ReadHsb}
 use Rattle.rules.specs.declared.session.Session.{Session}
 use Rattle.rules.specs.declared.session.Pending.{Pending}
 use Rattle.rules.specs.declared.session.Pending.the-variants.{Nothing, MemoryRead, BlankReport, OneByte, Start}
@@ -47,7 +47,8 @@ pub record ConfigFits (c : Config) : Type 0 where
   pub hsb : Byte (c .hsb)
 
 abbrev pub CommandFits : Command → Type 0
-CommandFits (Program r) = Words r
+CommandFits (ProgramFlash a e) = Word (a .0) × Word (e .0)
+CommandFits (ProgramEeprom a e) = Word (a .0) × Word (e .0)
 CommandFits (Read r) = Words r
 CommandFits (BlankCheck a e) = Word (a .0) × Word (e .0)
 CommandFits (EraseBlock k) = Unit {0}

@@ -1,6 +1,6 @@
 // A command as a number.
 ghost use mathlib.Core.Path.{_≡_};
-ghost use Rattle.numbers.specs.Layout.{packRange, packBlock, packCommand, commandFor, commandOf};
+ghost use Rattle.numbers.specs.Layout.{packReading, packBlock, packCommand, commandFor, commandOf};
 use crate::packing::first_word;
 use crate::packing::low_byte;
 use crate::packing::pack_words;
@@ -12,12 +12,12 @@ use memory::EepromAddress;
 use memory::FlashAddress;
 use memory::Range;
 
-fn pack_range(kind: u8, range: Range) -> u64
-    ensures { λ r. ⌜ r ≡ packRange kind range ⌝ }
+fn pack_reading(range: Range) -> u64
+    ensures { λ r. ⌜ r ≡ packReading range ⌝ }
 {
     match range {
-        Range::Flash(start, end) => pack_words(kind as u16, start.0, end.0, 0),
-        Range::Eeprom(start, end) => pack_words((kind as u16) + 1, start.0, end.0, 0),
+        Range::Flash(start, end) => pack_words(2, start.0, end.0, 0),
+        Range::Eeprom(start, end) => pack_words(3, start.0, end.0, 0),
     }
 }
 
@@ -36,8 +36,9 @@ pub fn pack_command(command: Command) -> u64
     ensures { λ r. ⌜ r ≡ packCommand command ⌝ }
 {
     match command {
-        Command::Program(range) => pack_range(0, range),
-        Command::Read(range) => pack_range(2, range),
+        Command::ProgramFlash(start, end) => pack_words(0, start.0, end.0, 0),
+        Command::ProgramEeprom(start, end) => pack_words(1, start.0, end.0, 0),
+        Command::Read(range) => pack_reading(range),
         Command::BlankCheck(start, end) => pack_words(4, start.0, end.0, 0),
         Command::EraseBlock(block) => pack_block(block),
         Command::EraseChip => pack_words(8, 0, 0, 0),
@@ -55,8 +56,8 @@ fn command_for(kind: u16, first: u16, last: u16) -> Command
     ensures { λ r. ⌜ r ≡ commandFor kind first last ⌝ }
 {
     match kind {
-        0 => Command::Program(Range::Flash(FlashAddress(first), FlashAddress(last))),
-        1 => Command::Program(Range::Eeprom(EepromAddress(first), EepromAddress(last))),
+        0 => Command::ProgramFlash(FlashAddress(first), FlashAddress(last)),
+        1 => Command::ProgramEeprom(EepromAddress(first), EepromAddress(last)),
         2 => Command::Read(Range::Flash(FlashAddress(first), FlashAddress(last))),
         3 => Command::Read(Range::Eeprom(EepromAddress(first), EepromAddress(last))),
         4 => Command::BlankCheck(FlashAddress(first), FlashAddress(last)),

@@ -17,20 +17,20 @@ use Rattle.memory.specs.Pages.{pagesMet, programStores, chipStores}
 use Rattle.blank.specs.Blank.{usedIn}
 use Rattle.config.specs.Config.{erasedConfig}
 use Rattle.config.specs.Level.{level}
-use Rattle.memory.specs.declared.address.Range.{Range}
-use Rattle.memory.specs.declared.address.Range.the-variants.{Flash}
+use Rattle.memory.specs.declared.address.FlashAddress.{FlashAddress}
 use Rattle.config.specs.declared.config.Config.{Config}
 use Rattle.config.specs.declared.level.Level.{Level}
 use Rattle.config.specs.declared.level.Level.the-variants.{L0, L2}
 use Rattle.memory.proofs.PagesLaws.{programStores-programmed, length-programStores, storeAll-chipStores, length-chipStores}
 use Rattle.blank.proofs.BlankLaws.{usedIn-whole}
 use Rattle.command.specs.Form.{form}
-use Rattle.command.specs.Address.{badRange, mostBytes}
+use Rattle.command.specs.Address.{badEnds, mostBytes}
 use Rattle.command.specs.Transfer.{bodyPlace, bodyOf, transferLength}
-use Rattle.command.specs.declared.command.Command.the-variants.{Program, BlankCheck, EraseChip}
+use Rattle.command.specs.declared.command.Command.{Command}
+use Rattle.command.specs.declared.command.Command.the-variants.{ProgramFlash, BlankCheck, EraseChip}
 use Rattle.rules.specs.Session.{Session, session, idle, BlankReport}
 use Rattle.rules.specs.Result.{Board, board, reply, next, Done}
-use Rattle.rules.specs.Commands.{stall, perform, obey, obeyForm, accept, blankEffect, stores, program}
+use Rattle.rules.specs.Commands.{stall, perform, obey, obeyForm, accept, blankEffect, stores, programFlash}
 use Rattle.rules.specs.Requests.{mostData, requestOf, respond, upload, send, getStatus}
 use Rattle.rules.specs.Refusals.{refusal, replySize}
 use Rattle.rules.specs.Step.{step, ask, lastSent}
@@ -53,29 +53,29 @@ answers-by {l} {head} {least} {most} {o} p q f = record {
 -- ---- program transfers (cases 2, 6 and 7)
 
 -- a command to program that passes
-obey-program : (b : Board) (r : Range) (d : List ℕ) → level (b .config) ≡ L0 → badRange r ≡ false → length d ≡ transferLength r
-    → obey b (Program r) d ≡ accept (Program r) (program b r d)
+obey-program : (b : Board) (a e : FlashAddress) (d : List ℕ) → level (b .config) ≡ L0 → badEnds flashSize (a .0) (e .0) ≡ false
+    → length d ≡ transferLength (a .0) (e .0) → obey b (ProgramFlash a e) d ≡ accept (ProgramFlash a e) (programFlash b a e d)
 unfolding obey perform
-obey-program b r d l g h = rw (l, g, h, eq-eqb (transferLength r) (transferLength r) refl)
+obey-program b a e d l g h = rw (l, g, h, eq-eqb (transferLength (a .0) (e .0)) (transferLength (a .0) (e .0)) refl)
 
 -- the bytes of a transfer lie where its layout says
 module _ (a e : ℕ) (filler pad new suffix : List ℕ) (hf : length filler ≡ 26) (hn : length new ≡ count a e) (hs : length suffix ≡ 16)
-    (ht : length (transfer a e filler pad new suffix) ≡ transferLength (Flash (flashAddress a) (flashAddress e))) where
+    (ht : length (transfer a e filler pad new suffix) ≡ transferLength a e) where
   front : List ℕ
   front = programHead a e ++ filler ++ pad
 
-  length-front : length front ≡ bodyPlace (Flash (flashAddress a) (flashAddress e))
+  length-front : length front ≡ bodyPlace a
   unfolding front
   length-front = simp length-append (omega (arith, simp length-append at ht))
 
-  transfer-body : bodyOf (Flash (flashAddress a) (flashAddress e)) (transfer a e filler pad new suffix) ≡ new
+  transfer-body : bodyOf a e (transfer a e filler pad new suffix) ≡ new
   unfolding front
   transfer-body =
-      ap (λ x. take (count a e) (drop (bodyPlace (Flash (flashAddress a) (flashAddress e))) x)) (append-assoc front new suffix)
-      ∙ ap (take (count a e)) (drop-at front (new ++ suffix) (bodyPlace (Flash (flashAddress a) (flashAddress e))) length-front)
+      ap (λ x. take (count a e) (drop (bodyPlace a) x)) (append-assoc front new suffix)
+      ∙ ap (take (count a e)) (drop-at front (new ++ suffix) (bodyPlace a) length-front)
       ∙ take-at new suffix (count a e) hn
 
-  transfer-form : form (transfer a e filler pad new suffix) ≡ some (Program (Flash (flashAddress a) (flashAddress e)))
+  transfer-form : form (transfer a e filler pad new suffix) ≡ some (ProgramFlash (flashAddress a) (flashAddress e))
   unfolding form
   transfer-form =
       let six : 6 ≤ length (transfer a e filler pad new suffix) = omega (arith, ht) in
@@ -83,18 +83,17 @@ module _ (a e : ℕ) (filler pad new suffix : List ℕ) (hf : length filler ≡ 
       let we : e / 256 * 256 + e % 256 ≡ e = omega arith in
       rw (le-leb 6 (length (transfer a e filler pad new suffix)) six, wa, we)
 
-programs-by : (a e n k : ℕ) → a ≤ e → e < flashSize → count a e ≤ mostBytes → n ≡ transferLength (Flash (flashAddress a) (flashAddress e))
-    → k ≡ pagesMet a e → Programs a e n k
+programs-by : (a e n k : ℕ) → a ≤ e → e < flashSize → count a e ≤ mostBytes → n ≡ transferLength a e → k ≡ pagesMet a e → Programs a e n k
 programs-by a e n k forward inside short hn hk = record {
   programs = λ b r u filler pad new suffix lf ln ls lt.
-      let range : Range = Flash (flashAddress a) (flashAddress e) in
+      let to-flash : Command = ProgramFlash (flashAddress a) (flashAddress e) in
       let t : List ℕ = transfer a e filler pad new suffix in
-      let good : badRange range ≡ false = rw (le-ltb e a forward, lt-leb flashSize e inside, le-ltb mostBytes (count a e) short) in
-      let q : step b (download u t) ≡ accept (Program range) (stores (b .config) (programStores a e new (b .flash))) =
+      let good : badEnds flashSize a e ≡ false = rw (le-ltb e a forward, lt-leb flashSize e inside, le-ltb mostBytes (count a e) short) in
+      let q : step b (download u t) ≡ accept to-flash (stores (b .config) (programStores a e new (b .flash))) =
       commanded r u t (omega arith) (omega arith)
       ∙ ap (λ o. obeyForm b o t) (transfer-form a e filler pad new suffix lf ln ls (lt ∙ hn))
-      ∙ obey-program b range t (r .at-level) good (lt ∙ hn)
-      ∙ ap (λ x. accept (Program range) (stores (b .config) (programStores a e x (b .flash)))) (transfer-body a e filler pad new suffix lf ln ls (lt ∙ hn)) in (
+      ∙ obey-program b (flashAddress a) (flashAddress e) t (r .at-level) good (lt ∙ hn)
+      ∙ ap (λ x. accept to-flash (stores (b .config) (programStores a e x (b .flash)))) (transfer-body a e filler pad new suffix lf ln ls (lt ∙ hn)) in (
         ap line q ∙ ap taken (length-programStores a e new (b .flash) ∙ sym hk),
         subst (λ x. Programmed a new (b .flash) (next b x .flash)) (sym q)
             (programStores-programmed a e new (b .flash) flashPages (r .flash-size) forward (omega (arith, r .flash-size)) ln),

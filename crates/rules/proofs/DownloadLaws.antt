@@ -11,7 +11,6 @@ use borrow.Author.Tests.{eq-eqb, ne-eqb, lt-ltb, le-ltb}
 use Rattle.words.specs.Words.{if_then_else_, among}
 use Rattle.config.specs.Level.{level}
 use Rattle.memory.specs.declared.address.FlashAddress.{FlashAddress}
-use Rattle.memory.specs.declared.address.Range.the-variants.{Flash, Eeprom}
 use Rattle.config.specs.declared.config.Config.{Config}
 use Rattle.command.specs.Form.{form, formOf}
 use Rattle.command.specs.Address.{badAddress}
@@ -19,8 +18,8 @@ use Rattle.command.specs.Transfer.{badLength}
 use Rattle.command.specs.declared.form.Form.{Form}
 use Rattle.command.specs.declared.form.Form.the-variants.{Is, Unlisted}
 use Rattle.command.specs.declared.command.Command.{Command}
-use Rattle.command.specs.declared.command.Command.the-variants.{Program, Read, BlankCheck, EraseBlock, EraseChip, WriteByte, WriteHsb, StartReset}
-use Rattle.command.specs.declared.command.Command.the-variants.{StartAt, ReadVersion, ReadByte, ReadHsb}
+use Rattle.command.specs.declared.command.Command.the-variants.{ProgramFlash, ProgramEeprom, Read, BlankCheck, EraseBlock, EraseChip, WriteByte, WriteHsb}
+use Rattle.command.specs.declared.command.Command.the-variants.{StartReset, StartAt, ReadVersion, ReadByte, ReadHsb}
 use Rattle.rules.specs.Session.{Session, session, idle, Nothing, Start, StartKind}
 use Rattle.rules.specs.Levels.{levelStatus}
 use Rattle.rules.specs.Result.{board, reply, Answer, answer, Outcome, Done, Stall, Started}
@@ -40,8 +39,8 @@ no-form (some j) f e q = absurd (let z : _≡_ {A = ℕ} 0 1 = cc in omega arith
 -- what a command does, whatever the session
 perform-session : (s t : Session) (c : Config) (f e d : List ℕ) (k : Command) → perform (board s c f e) k d ≡ perform (board t c f e) k d
 unfolding perform
-perform-session s t c f e d (Program (Flash x y)) = refl
-perform-session s t c f e d (Program (Eeprom x y)) = refl
+perform-session s t c f e d (ProgramFlash x y) = refl
+perform-session s t c f e d (ProgramEeprom x y) = refl
 perform-session s t c f e d (Read r) = refl
 perform-session s t c f e d (BlankCheck x y) = refl
 perform-session s t c f e d (EraseBlock k) = refl

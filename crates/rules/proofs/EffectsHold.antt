@@ -9,12 +9,12 @@ use native.Mathlib.Omega.{arith}
 use lib.Dec.{eqb, ltb}
 use borrow.Author.Tests.{ne-eqb, le-ltb, eqb-false, ltb-false}
 use lib.ListN.{length}
-use Rattle.memory.specs.Memory.{flashPages}
+use Rattle.memory.specs.Memory.{flashSize, flashPages, eepromSize}
 use Rattle.words.specs.Words.{if_then_else_, among}
 use Rattle.blank.specs.Blank.{usedIn}
 use Rattle.config.specs.Level.{level}
-use Rattle.memory.specs.declared.address.Range.{Range}
-use Rattle.memory.specs.declared.address.Range.the-variants.{Flash, Eeprom}
+use Rattle.memory.specs.declared.address.FlashAddress.{FlashAddress}
+use Rattle.memory.specs.declared.address.EepromAddress.{EepromAddress}
 use Rattle.config.specs.declared.level.Level.the-variants.{L0}
 use Rattle.memory.specs.declared.address.Block.{Block}
 use Rattle.memory.specs.Pages.{blockStores}
@@ -28,10 +28,9 @@ use Rattle.command.specs.Transfer.{bodyOf, badLength}
 use Rattle.command.specs.Reader.{partsOf, readCommand}
 use Rattle.command.specs.declared.reader.Reading.the-variants.{Taken}
 use Rattle.command.specs.declared.command.Command.{Command}
-use Rattle.command.specs.declared.command.Command.the-variants.{Program, Read, BlankCheck, EraseBlock, EraseChip, WriteByte, WriteHsb, StartReset}
-use Rattle.command.specs.declared.command.Command.the-variants.{StartAt, ReadVersion, ReadByte, ReadHsb}
-use Rattle.command.proofs.AddressLaws.{Good, badRange-good}
-use Rattle.command.proofs.TransferLaws.{length-bodyOf}
+use Rattle.command.specs.declared.command.Command.the-variants.{ProgramFlash, ProgramEeprom, Read, BlankCheck, EraseBlock, EraseChip, WriteByte, WriteHsb}
+use Rattle.command.specs.declared.command.Command.the-variants.{StartReset, StartAt, ReadVersion, ReadByte, ReadHsb}
+use Rattle.command.proofs.AddressLaws.{badEnds-good}
 use Rattle.command.proofs.ReaderLaws.{passed, taken}
 use Rattle.writer.proofs.RoundTripHolds.{writes-back}
 use Rattle.rules.specs.Result.{Board, Result, Stall, Refused}
@@ -45,6 +44,7 @@ use Rattle.rules.specs.Step.{Ask, PowerUp, ask, powerUp, step}
 use Rattle.rules.specs.Effects.{PagesOf, Leaves, Effects, MovesNothing, RefusalsMoveNothing, RefusalsGiven, AcceptedRightly, AcceptedOnly, Commands}
 use Rattle.rules.specs.Effects.{AcceptedAlways, NotAcceptedSaid, StatusStays, WrittenBack, AnsweredIsWrittenBack, Awake}
 use Rattle.rules.specs.BenchCases.{Ready, Unnamed, download}
+use Rattle.rules.proofs.PerformLaws.{transfer-fit}
 use Rattle.rules.proofs.Ready.{commanded, not-commanded, stateOf}
 use Rattle.rules.proofs.Shape.{Passed, Shape, refused, still, did, shape, isRefused}
 
@@ -56,23 +56,28 @@ leaves-blank : (b : Board) (a e : _) (d : List ℕ) (o : Option ℕ) → Leaves 
 leaves-blank b a e d none = record { flash = refl; eeprom = refl; config = refl; page-count = refl }
 leaves-blank b a e d (some x) = record { flash = refl; eeprom = refl; config = refl; page-count = refl }
 
-leaves-program : (b : Board) (r : Range) (d : List ℕ) → Passed b (Program r) d → Leaves b d (accept (Program r) (perform b (Program r) d))
+leaves-flash : (b : Board) (a e : FlashAddress) (d : List ℕ) → Passed b (ProgramFlash a e) d
+    → Leaves b d (accept (ProgramFlash a e) (perform b (ProgramFlash a e) d))
 unfolding perform
-leaves-program b (Flash a e) d p =
-    let g : Good (Flash a e) = badRange-good (Flash a e) (p .address-right) in
+leaves-flash b a e d p =
+    let fit = transfer-fit flashSize (a .0) (e .0) d (b .flash) (p .flash-size) (p .address-right) (p .length-right) in
+    let few = pagesMet-le (a .0) (e .0) (badEnds-good flashSize (a .0) (e .0) (p .address-right) .short) in
     record {
-      flash = programStores-programmed (a .0) (e .0) (bodyOf (Flash a e) d) (b .flash) flashPages (p .flash-size) (g .forward)
-          (omega (arith, g .inside, p .flash-size)) (length-bodyOf (Flash a e) d (p .length-right));
+      flash = programStores-programmed (a .0) (e .0) (bodyOf (a .0) (e .0) d) (b .flash) flashPages (p .flash-size) (fit .forward)
+          (omega (arith, fit)) (fit .right-count);
       eeprom = refl;
       config = refl;
-      page-count = (length-programStores (a .0) (e .0) _ (b .flash), rw length-programStores (pagesMet-le (a .0) (e .0) (g .short)));
+      page-count = (length-programStores (a .0) (e .0) _ (b .flash), rw length-programStores few);
     }
-leaves-program b (Eeprom a e) d p =
-    let g : Good (Eeprom a e) = badRange-good (Eeprom a e) (p .address-right) in
+
+leaves-eeprom : (b : Board) (a e : EepromAddress) (d : List ℕ) → Passed b (ProgramEeprom a e) d
+    → Leaves b d (accept (ProgramEeprom a e) (perform b (ProgramEeprom a e) d))
+unfolding perform
+leaves-eeprom b a e d p =
+    let fit = transfer-fit eepromSize (a .0) (e .0) d (b .eeprom) (p .eeprom-size) (p .address-right) (p .length-right) in
     record {
       flash = refl;
-      eeprom = overlay-programmed (a .0) (bodyOf (Eeprom a e) d) (b .eeprom)
-          (omega (arith, g .forward, g .inside, p .eeprom-size, length-bodyOf (Eeprom a e) d (p .length-right)));
+      eeprom = overlay-programmed (a .0) (bodyOf (a .0) (e .0) d) (b .eeprom) (omega (arith, fit));
       config = refl;
       page-count = refl;
     }
@@ -84,7 +89,8 @@ pages-block High f = length-blockStores High f
 
 leaves-did : (b : Board) (k : Command) (d : List ℕ) → Passed b k d → Leaves b d (accept k (perform b k d))
 unfolding perform
-leaves-did b (Program r) d p = leaves-program b r d p
+leaves-did b (ProgramFlash a e) d p = leaves-flash b a e d p
+leaves-did b (ProgramEeprom a e) d p = leaves-eeprom b a e d p
 leaves-did b (Read r) d p = record { flash = refl; eeprom = refl; config = refl; page-count = refl }
 leaves-did b (BlankCheck a e) d p = leaves-blank b a e d (usedIn (a .0) (e .0) (b .flash))
 leaves-did b (EraseBlock k) d p =
@@ -240,7 +246,8 @@ status-stays b setup d n ten h =
 -- at level 0 nothing but an SSB value is forbidden, and a write of a byte has neither an address nor a length to be wrong
 forbidden-plain : (k : Command) (d : List ℕ) → not (eqb (levelStatus k L0) 0x00) ≡ true → (badAddress k ≡ false) × (badLength k d ≡ false)
 forbidden-plain (WriteByte i v) d q = (refl, refl)
-forbidden-plain (Program r) d q = absurd (false≢true q)
+forbidden-plain (ProgramFlash a e) d q = absurd (false≢true q)
+forbidden-plain (ProgramEeprom a e) d q = absurd (false≢true q)
 forbidden-plain (Read r) d q = absurd (false≢true q)
 forbidden-plain (BlankCheck a e) d q = absurd (false≢true q)
 forbidden-plain (EraseBlock b) d q = absurd (false≢true q)

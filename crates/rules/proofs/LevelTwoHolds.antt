@@ -25,8 +25,8 @@ use Rattle.blank.proofs.BlankLaws.{marks, usedIn-same, usedIn-one}
 use Rattle.blank.proofs.SameBlankLaws.{same-marks, differ-at}
 use Rattle.command.specs.Form.{form}
 use Rattle.command.specs.declared.command.Command.{Command}
-use Rattle.command.specs.declared.command.Command.the-variants.{Program, Read, BlankCheck, EraseBlock, EraseChip, WriteByte, WriteHsb, StartReset}
-use Rattle.command.specs.declared.command.Command.the-variants.{StartAt, ReadVersion, ReadByte, ReadHsb}
+use Rattle.command.specs.declared.command.Command.the-variants.{ProgramFlash, ProgramEeprom, Read, BlankCheck, EraseBlock, EraseChip, WriteByte, WriteHsb}
+use Rattle.command.specs.declared.command.Command.the-variants.{StartReset, StartAt, ReadVersion, ReadByte, ReadHsb}
 use Rattle.rules.specs.Session.{Session, session, idle, Pending, Nothing, MemoryRead, BlankReport, OneByte, Start}
 use Rattle.rules.specs.Result.{Board, board, Result, reply, next, Outcome}
 use Rattle.rules.specs.Commands.{stall, perform, accept, blankEffect, obey, obeyForm}
@@ -53,7 +53,8 @@ upload-same st k (Start j a) c f f′ e e′ lv n = refl
 module _ (s : Session) (c : Config) (f f′ e e′ : List ℕ) (lv : level c ≡ L2) (m : marks f ≡ marks f′) where
   obey-same : (k : Command) (d : List ℕ) → obey (board s c f e) k d ≡ obey (board s c f′ e′) k d
   unfolding obey perform
-  obey-same (Program r) d = rw lv
+  obey-same (ProgramFlash a z) d = rw lv
+  obey-same (ProgramEeprom a z) d = rw lv
   obey-same (Read r) d = rw lv
   obey-same (BlankCheck a z) d = rw (usedIn-same (a .0) (z .0) f f′ m)
   obey-same (EraseBlock k) d = rw lv
@@ -118,7 +119,8 @@ kept-byte b lv i v d p false q = quiet refl refl (rw q lv) refl
 
 kept-did : (b : Board) → level (b .config) ≡ L2 → (k : Command) (d : List ℕ) → Passed b k d → Kept (b .flash) (accept k (perform b k d))
 unfolding perform
-kept-did b lv (Program r) d p = let z = rw lv at (p .level-right) in absurd (omega arith)
+kept-did b lv (ProgramFlash a e) d p = let z = rw lv at (p .level-right) in absurd (omega arith)
+kept-did b lv (ProgramEeprom a e) d p = let z = rw lv at (p .level-right) in absurd (omega arith)
 kept-did b lv (Read r) d p = quiet refl refl lv refl
 kept-did b lv (BlankCheck a z) d p = kept-blank b a z lv (usedIn (a .0) (z .0) (b .flash))
 kept-did b lv (EraseBlock k) d p = let z = rw lv at (p .level-right) in absurd (omega arith)

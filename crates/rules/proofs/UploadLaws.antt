@@ -19,7 +19,7 @@ use Rattle.memory.specs.declared.address.Range.{Range}
 use Rattle.memory.specs.declared.address.Range.the-variants.{Flash, Eeprom}
 use Rattle.config.specs.declared.config.Config.{Config}
 use Rattle.command.specs.Address.{badRange}
-use Rattle.command.proofs.AddressLaws.{Good, badRange-good}
+use Rattle.command.proofs.AddressLaws.{Good, badEnds-good}
 use Rattle.rules.specs.Session.{Session, idle, Pending, Nothing, MemoryRead, BlankReport, OneByte}
 use Rattle.rules.specs.Result.{Board, board, Answer, answer}
 use Rattle.rules.specs.Commands.{stall}
@@ -100,8 +100,8 @@ module _ (c : Config) (f e p : List ℕ) (n k : ℕ) (p′ : List ℕ) where
   first-buffer (Eeprom x y) = refl
 
   module _ (r : Range) (h : Sendable n (MemoryRead r) f e p) where
-    good : Good r
-    good = badRange-good r (h .pending-right)
+    good : Good (memorySize r) (rangeStart r) (rangeEnd r)
+    good = badEnds-good (memorySize r) (rangeStart r) (rangeEnd r) (h .pending-right)
 
     roomy : rangeCount r ≤ length p
     roomy = let i = good .short in let u = h .ready .room in omega arith
@@ -120,7 +120,8 @@ module _ (c : Config) (f e p : List ℕ) (n k : ℕ) (p′ : List ℕ) where
 
 -- a range with more than n bytes splits after them, and n bytes on is still a word
 pub splits : (r : Range) (n : ℕ) → 0 < n → n < rangeCount r → badRange r ≡ false → Splits n r
-splits r n a l h = record { some-asked = a; more = omega arith; inside = badRange-good r h .inside }
+splits r n a l h =
+    record { some-asked = a; more = omega arith; inside = badEnds-good (memorySize r) (rangeStart r) (rangeEnd r) h .inside }
 
 pub in-word : (r : Range) (n : ℕ) → Splits n r → rangeStart r + n < 65536
 in-word (Flash x y) n p = let m = p .more in let i = p .inside in omega arith

@@ -11,15 +11,15 @@ use Rattle.blank.specs.Blank.{usedIn, usedStatus}
 use Rattle.blank.specs.declared.search.Used.the-variants.{At}
 use Rattle.config.specs.Config.{version, configByte, withByte, withHsb, erasedConfig}
 use Rattle.config.specs.Level.{level}
-use Rattle.memory.specs.declared.address.Range.{Range}
-use Rattle.memory.specs.declared.address.Range.the-variants.{Flash, Eeprom}
+use Rattle.memory.specs.declared.address.FlashAddress.{FlashAddress}
+use Rattle.memory.specs.declared.address.EepromAddress.{EepromAddress}
 use Rattle.config.specs.declared.config.Config.{Config}
 use Rattle.command.specs.Address.{badAddress, badAddressStatus}
 use Rattle.command.specs.Reader.{stallStatus}
 use Rattle.command.specs.Transfer.{bodyOf, badLength}
 use Rattle.command.specs.declared.command.Command.{Command}
-use Rattle.command.specs.declared.command.Command.the-variants.{Program, Read, BlankCheck, EraseBlock, EraseChip, WriteByte, WriteHsb, StartReset}
-use Rattle.command.specs.declared.command.Command.the-variants.{StartAt, ReadVersion, ReadByte, ReadHsb}
+use Rattle.command.specs.declared.command.Command.the-variants.{ProgramFlash, ProgramEeprom, Read, BlankCheck, EraseBlock, EraseChip, WriteByte, WriteHsb}
+use Rattle.command.specs.declared.command.Command.the-variants.{StartReset, StartAt, ReadVersion, ReadByte, ReadHsb}
 use Rattle.rules.specs.Session.{session, Pending, Nothing, MemoryRead, BlankReport, OneByte, Start, Reset, AtAddress}
 use Rattle.rules.specs.Levels.{levelStatus}
 use Rattle.rules.specs.Result.{Board, Patch, Result, reply, Done, Stall}
@@ -57,10 +57,12 @@ stores c ss = record { status = 0x00; pending = Nothing; config = c; stored = ss
 abbrev pub patches : Config → List Patch → Effect
 patches c ps = record { status = 0x00; pending = Nothing; config = c; stored = []; patched = ps }
 
--- "program": "Programmed bytes take the new values and all others stay."
-abbrev pub program : Board → Range → List ℕ → Effect
-program b (Flash a e) d = stores (b .config) (programStores (a .0) (e .0) (bodyOf (Flash a e) d) (b .flash))
-program b (Eeprom a e) d = patches (b .config) (record { at = a; bytes = bodyOf (Eeprom a e) d } ∷ [])
+-- "program": "Programmed bytes take the new values and all others stay."; flash by page stores, EEPROM by its bytes
+abbrev pub programFlash : Board → FlashAddress → FlashAddress → List ℕ → Effect
+programFlash b a e d = stores (b .config) (programStores (a .0) (e .0) (bodyOf (a .0) (e .0) d) (b .flash))
+
+abbrev pub programEeprom : Board → EepromAddress → EepromAddress → List ℕ → Effect
+programEeprom b a e d = patches (b .config) (record { at = a; bytes = bodyOf (a .0) (e .0) d } ∷ [])
 
 -- "A blank check that meets a byte not FFh sets 05h with state 3 and the first such address pending."
 abbrev pub blankEffect : Config → Option ℕ → Effect
@@ -69,7 +71,8 @@ blankEffect c (some x) = record { status = usedStatus (At (flashAddress x)); pen
 
 -- each row of the table; d the whole data
 unfoldable pub perform : Board → Command → List ℕ → Effect
-perform b (Program r) d = program b r d
+perform b (ProgramFlash a e) d = programFlash b a e d
+perform b (ProgramEeprom a e) d = programEeprom b a e d
 perform b (Read r) d = leaves (b .config) (MemoryRead r)
 perform b (BlankCheck a e) d = blankEffect (b .config) (usedIn (a .0) (e .0) (b .flash))
 perform b (EraseBlock k) d = stores (b .config) (blockStores k (b .flash))

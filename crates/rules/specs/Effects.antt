@@ -11,7 +11,6 @@ use Rattle.memory.specs.Memory.{blankFlash}
 use Rattle.memory.specs.Pages.{pagesMet, blockStart, blockFF}
 use Rattle.config.specs.Config.{withByte, withHsb, erasedConfig}
 use Rattle.config.specs.Level.{level}
-use Rattle.memory.specs.declared.address.Range.the-variants.{Flash, Eeprom}
 use Rattle.memory.specs.declared.address.Block.the-variants.{Low, Middle, High}
 use Rattle.config.specs.declared.config.Config.{Config}
 use Rattle.config.specs.declared.level.Level.the-variants.{L0}
@@ -20,8 +19,8 @@ use Rattle.command.specs.Reader.{partsOf, readCommand}
 use Rattle.command.specs.declared.reader.Reading.the-variants.{Taken}
 use Rattle.writer.specs.RoundTrip.{Bytes, ZeroFilled, WritesAs}
 use Rattle.command.specs.declared.command.Command.{Command}
-use Rattle.command.specs.declared.command.Command.the-variants.{Program, Read, BlankCheck, EraseBlock, EraseChip, WriteByte, WriteHsb, StartReset}
-use Rattle.command.specs.declared.command.Command.the-variants.{StartAt, ReadVersion, ReadByte, ReadHsb}
+use Rattle.command.specs.declared.command.Command.the-variants.{ProgramFlash, ProgramEeprom, Read, BlankCheck, EraseBlock, EraseChip, WriteByte, WriteHsb}
+use Rattle.command.specs.declared.command.Command.the-variants.{StartReset, StartAt, ReadVersion, ReadByte, ReadHsb}
 use Rattle.rules.specs.Levels.{levelStatus}
 use Rattle.rules.specs.Result.{Board, Result, next, pages, replyAfter, Done, Stall, Refused}
 use Rattle.rules.specs.Requests.{requestOf, Dnload, ClrStatus, mostData}
@@ -34,8 +33,8 @@ use Rattle.rules.specs.Step.{Event, Ask, PowerUp, ask, step, lastSent}
 -- transfer."
 abbrev pub PagesOf : Option Command → ℕ → Type 0
 PagesOf none n = n ≡ 0
-PagesOf (some (Program (Flash a e))) n = (n ≡ pagesMet (a .0) (e .0)) × (n ≤ 9)
-PagesOf (some (Program (Eeprom a e))) n = n ≡ 0
+PagesOf (some (ProgramFlash a e)) n = (n ≡ pagesMet (a .0) (e .0)) × (n ≤ 9)
+PagesOf (some (ProgramEeprom a e)) n = n ≡ 0
 PagesOf (some (Read r)) n = n ≡ 0
 PagesOf (some (BlankCheck a e)) n = n ≡ 0
 PagesOf (some (EraseBlock Low)) n = n ≡ 64
@@ -53,8 +52,8 @@ PagesOf (some ReadHsb) n = n ≡ 0
 -- the flash, of which a byte that is not in the range stays
 abbrev pub FlashAfter : Option Command → List ℕ → List ℕ → List ℕ → Type 0
 FlashAfter none d before after = after ≡ before
-FlashAfter (some (Program (Flash a e))) d before after = Programmed (a .0) (bodyOf (Flash a e) d) before after
-FlashAfter (some (Program (Eeprom a e))) d before after = after ≡ before
+FlashAfter (some (ProgramFlash a e)) d before after = Programmed (a .0) (bodyOf (a .0) (e .0) d) before after
+FlashAfter (some (ProgramEeprom a e)) d before after = after ≡ before
 FlashAfter (some (Read r)) d before after = after ≡ before
 FlashAfter (some (BlankCheck a e)) d before after = after ≡ before
 FlashAfter (some (EraseBlock k)) d before after = Programmed (blockStart k) (blockFF k) before after
@@ -70,8 +69,8 @@ FlashAfter (some ReadHsb) d before after = after ≡ before
 -- the EEPROM, of which a byte that is not in the range stays, and every byte in a full chip erase
 abbrev pub EepromAfter : Option Command → List ℕ → List ℕ → List ℕ → Type 0
 EepromAfter none d before after = after ≡ before
-EepromAfter (some (Program (Flash a e))) d before after = after ≡ before
-EepromAfter (some (Program (Eeprom a e))) d before after = Programmed (a .0) (bodyOf (Eeprom a e) d) before after
+EepromAfter (some (ProgramFlash a e)) d before after = after ≡ before
+EepromAfter (some (ProgramEeprom a e)) d before after = Programmed (a .0) (bodyOf (a .0) (e .0) d) before after
 EepromAfter (some (Read r)) d before after = after ≡ before
 EepromAfter (some (BlankCheck a e)) d before after = after ≡ before
 EepromAfter (some (EraseBlock k)) d before after = after ≡ before
@@ -87,7 +86,8 @@ EepromAfter (some ReadHsb) d before after = after ≡ before
 -- the configuration
 abbrev pub configAfter : Option Command → Config → Config
 configAfter none c = c
-configAfter (some (Program r)) c = c
+configAfter (some (ProgramFlash a e)) c = c
+configAfter (some (ProgramEeprom a e)) c = c
 configAfter (some (Read r)) c = c
 configAfter (some (BlankCheck a e)) c = c
 configAfter (some (EraseBlock k)) c = c

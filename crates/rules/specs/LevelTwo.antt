@@ -13,8 +13,8 @@ use Rattle.blank.specs.Blank.{SameBlank}
 use Rattle.config.specs.Level.{level}
 use Rattle.config.specs.declared.level.Level.the-variants.{L2}
 use Rattle.command.specs.declared.command.Command.{Command}
-use Rattle.command.specs.declared.command.Command.the-variants.{Program, Read, BlankCheck, EraseBlock, EraseChip, WriteByte, WriteHsb, StartReset}
-use Rattle.command.specs.declared.command.Command.the-variants.{StartAt, ReadVersion, ReadByte, ReadHsb}
+use Rattle.command.specs.declared.command.Command.the-variants.{ProgramFlash, ProgramEeprom, Read, BlankCheck, EraseBlock, EraseChip, WriteByte, WriteHsb}
+use Rattle.command.specs.declared.command.Command.the-variants.{StartReset, StartAt, ReadVersion, ReadByte, ReadHsb}
 use Rattle.rules.specs.Result.{Board, next}
 use Rattle.rules.specs.Step.{Event, PowerUp, step, reports, lastSent}
 use Rattle.rules.specs.Answered.{Sizes}
@@ -33,7 +33,8 @@ pub record Alike (b b′ : Board) : Type 0 where
 -- an accepted full chip erase, told by the command
 abbrev pub isChipErase : Option Command → Bool
 isChipErase none = false
-isChipErase (some (Program r)) = false
+isChipErase (some (ProgramFlash a e)) = false
+isChipErase (some (ProgramEeprom a e)) = false
 isChipErase (some (Read r)) = false
 isChipErase (some (BlankCheck a e)) = false
 isChipErase (some (EraseBlock k)) = false

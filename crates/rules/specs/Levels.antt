@@ -7,8 +7,8 @@ use Rattle.config.specs.Config.{ssbIndex}
 use Rattle.config.specs.declared.level.Level.{Level}
 use Rattle.config.specs.declared.level.Level.the-variants.{L0, L1, L2}
 use Rattle.command.specs.declared.command.Command.{Command}
-use Rattle.command.specs.declared.command.Command.the-variants.{Program, Read, BlankCheck, EraseBlock, EraseChip, WriteByte, WriteHsb, StartReset}
-use Rattle.command.specs.declared.command.Command.the-variants.{StartAt, ReadVersion, ReadByte, ReadHsb}
+use Rattle.command.specs.declared.command.Command.the-variants.{ProgramFlash, ProgramEeprom, Read, BlankCheck, EraseBlock, EraseChip, WriteByte, WriteHsb}
+use Rattle.command.specs.declared.command.Command.the-variants.{StartReset, StartAt, ReadVersion, ReadByte, ReadHsb}
 
 -- "program flash or EEPROM, block erase, write HSB"; "read flash or EEPROM, read HSB"; "write SSB", with its value; the last row
 pub data Row : Type 0 where
@@ -18,7 +18,8 @@ pub data Row : Type 0 where
   FreeRow : Row
 
 abbrev pub rowOf : Command → Row
-rowOf (Program r) = WriteRow
+rowOf (ProgramFlash a e) = WriteRow
+rowOf (ProgramEeprom a e) = WriteRow
 rowOf (EraseBlock k) = WriteRow
 rowOf (WriteHsb v) = WriteRow
 rowOf (Read r) = ReadRow

@@ -6,28 +6,26 @@ mod odd_board;
 
 use command::Command;
 use memory::FlashAddress;
-use memory::Range;
 
-// A range of flash.
-fn flash(start: u16, end: u16) -> Range
-    ensures { λ r. ⌜ r ≡ Range.Flash (flashAddress start) (flashAddress end) ⌝ }
+// The command that programs a range of flash.
+fn to_flash(start: u16, end: u16) -> Command
+    ensures { λ r. ⌜ r ≡ Command.ProgramFlash (flashAddress start) (flashAddress end) ⌝ }
 {
-    Range::Flash(FlashAddress(start), FlashAddress(end))
+    Command::ProgramFlash(FlashAddress(start), FlashAddress(end))
 }
 
 // X for 00AFh is 15; the transfer of one byte there is 64 bytes, and not 65.
 fn padding() {
-    let range = flash(0x00AF, 0x00AF);
-    check::expect(command::body_place(range) == 32 + 15);
-    check::expect(!command::wrong_length(Command::Program(range), 64));
-    check::expect(command::wrong_length(Command::Program(range), 65));
+    check::expect(command::body_place(0x00AF) == 32 + 15);
+    check::expect(!command::wrong_length(to_flash(0x00AF, 0x00AF), 64));
+    check::expect(command::wrong_length(to_flash(0x00AF, 0x00AF), 65));
 }
 
 // 0000h-0400h is too long, 7FFFh-7FFFh is the last byte, and 8000h-8000h lies outside.
 fn addresses() {
-    check::expect(command::bad_range(flash(0x0000, 0x0400)));
-    check::expect(!command::bad_range(flash(0x7FFF, 0x7FFF)));
-    check::expect(command::bad_range(flash(0x8000, 0x8000)));
+    check::expect(command::bad_address(to_flash(0x0000, 0x0400)));
+    check::expect(!command::bad_address(to_flash(0x7FFF, 0x7FFF)));
+    check::expect(command::bad_address(to_flash(0x8000, 0x8000)));
 }
 
 // HSB 4Fh over BBh is 4Bh.

@@ -10,23 +10,25 @@ use lib.Dec.{T, ltb, ltb→lt}
 use lib.ListN.{length, take, drop, length-append, length-replicate, length-drop, take-append-drop}
 use lib.Seq.{take-at, drop-at, take-length, drop-length, drop-cons, length-take-le, take-add}
 use borrow.Author.Tests.{eqb-true, eq-eqb, le-leb, le-ltb, not-false}
-use Rattle.words.specs.Words.{if_then_else_, byteAt, highFirst, overlay}
+use Rattle.words.specs.Words.{if_then_else_, count, byteAt, highFirst, overlay}
 use Rattle.words.proofs.WordsLaws.{overlay-front}
-use Rattle.memory.specs.Memory.{rangeStart, rangeCount}
 use Rattle.config.specs.Config.{readable, writable}
-use Rattle.memory.specs.declared.address.Range.{Range}
+use Rattle.memory.specs.declared.address.FlashAddress.{FlashAddress}
+use Rattle.memory.specs.declared.address.EepromAddress.{EepromAddress}
 use Rattle.memory.specs.declared.address.Range.the-variants.{Flash, Eeprom}
 use Rattle.memory.specs.declared.address.Block.the-variants.{Low, Middle, High}
 use Rattle.command.specs.declared.command.Command.{Command}
-use Rattle.command.specs.declared.command.Command.the-variants.{Program, Read, BlankCheck, EraseBlock, EraseChip, WriteByte, WriteHsb, StartReset, StartAt}
-use Rattle.command.specs.declared.command.Command.the-variants.{ReadVersion, ReadByte, ReadHsb}
+use Rattle.command.specs.declared.command.Command.the-variants.{ProgramFlash, ProgramEeprom, Read, BlankCheck, EraseBlock, EraseChip, WriteByte, WriteHsb}
+use Rattle.command.specs.declared.command.Command.the-variants.{StartReset, StartAt, ReadVersion, ReadByte, ReadHsb}
 use Rattle.command.specs.Form.{form}
 use Rattle.command.specs.Address.{badAddress}
-use Rattle.command.specs.Transfer.{bodyPlace, suffixPlace, transferLength, fillerSize, suffixSize, padding, badLength, bodyOf, suffixOf}
+use Rattle.command.specs.declared.transfer.Transfer.the-variants.{Of}
+use Rattle.command.specs.Transfer.{transferOf, bodyPlace, suffixPlace, transferLength, fillerSize, suffixSize, padding, badLength}
+use Rattle.command.specs.Transfer.{bodyOf, suffixOf}
 use Rattle.command.specs.Reader.{partsOf}
-use Rattle.writer.specs.Writer.{Wrote, Unwritten, zeros, noTail, tailFor, headBytes, commandBytes, badWrite, cannotWrite, putAnswer, putRoom}
+use Rattle.writer.specs.Writer.{Wrote, Unwritten, zeros, noTail, tailFor, headBytes, commandBytes, badParts, badWrite, cannotWrite, putAnswer, putRoom}
 use Rattle.writer.specs.Writer.{writeCommand, roomAfter}
-use Rattle.writer.specs.RoundTrip.{bodyAt, suffixAt, carried, ReadsAs, ReadsBack, ZeroFilled, Bytes, WritesBack}
+use Rattle.writer.specs.RoundTrip.{bodyAt, suffixAt, carried, ReadsAs, ReadsBack, ZeroPadded, ZeroFilled, Bytes, WritesBack}
 use Rattle.words.proofs.WordsLaws.{or-false}
 use Rattle.command.proofs.FormLaws.{Formed, formed, program-flash, program-eeprom, read-flash, read-eeprom, blank-check, erase-block, erase-chip, write-byte}
 use Rattle.command.proofs.FormLaws.{write-hsb, start-reset, start-at, read-version, read-byte, read-hsb}
@@ -62,48 +64,62 @@ was-written k d s room n false c q =
       bytes = rw c (was-put (commandBytes k d s) room n (ltb (length room) (length (commandBytes k d s))) refl (rw c at q));
     }
 
--- ---- a program transfer, part by part
+-- ---- a program transfer, part by part, in either memory
 
-module _ (r : Range) (d s : List ℕ) (ld : length d ≡ rangeCount r) (ls : length s ≡ suffixSize) where
+-- the command k carries bytes for the addresses a to e, has six before its filler, and is checked for the lengths of its parts
+record Carries (k : Command) (a e : ℕ) : Type 0 where
+  transfer : transferOf k ≡ Of a e
+  six : length (headBytes k) ≡ 6
+  checked : (d s : ℕ) → badWrite k d s ≡ badParts (count a e) d s
+
+carries-flash : (a e : FlashAddress) → Carries (ProgramFlash a e) (a .0) (e .0)
+unfolding headBytes
+carries-flash a e = record { transfer = refl; six = refl; checked = λ d s. refl }
+
+carries-eeprom : (a e : EepromAddress) → Carries (ProgramEeprom a e) (a .0) (e .0)
+unfolding headBytes
+carries-eeprom a e = record { transfer = refl; six = refl; checked = λ d s. refl }
+
+module _ (k : Command) (a e : ℕ) (t : Carries k a e) (d s : List ℕ) (ld : length d ≡ count a e) (ls : length s ≡ suffixSize) where
   front : List ℕ
-  front = headBytes (Program r) ++ zeros (fillerSize + padding (rangeStart r))
+  front = headBytes k ++ zeros (fillerSize + padding a)
 
-  length-front : length front ≡ bodyPlace r
-  unfolding front headBytes
-  length-front = simp (length-append, length-replicate) (omega arith)
+  length-front : length front ≡ bodyPlace a
+  unfolding front
+  length-front = simp (length-append, length-replicate) (omega (arith, t .six))
 
-  bytes-parts : commandBytes (Program r) d s ≡ front ++ d ++ s
+  bytes-parts : commandBytes k d s ≡ front ++ d ++ s
   unfolding front commandBytes
-  bytes-parts = rw (take-length d, take-length s)
+  bytes-parts = rw (t .transfer, take-length d, take-length s)
 
-  length-bytes : length (commandBytes (Program r) d s) ≡ transferLength r
+  length-bytes : length (commandBytes k d s) ≡ transferLength a e
   length-bytes = ap length bytes-parts ∙ simp length-append (omega (arith, length-front))
 
-  length-front-body : length (front ++ d) ≡ suffixPlace r
+  length-front-body : length (front ++ d) ≡ suffixPlace a e
   length-front-body = simp length-append (omega (arith, length-front))
 
-  body-back : bodyOf r (commandBytes (Program r) d s) ≡ d
+  body-back : bodyOf a e (commandBytes k d s) ≡ d
   body-back =
-      ap (λ x. take (rangeCount r) (drop (bodyPlace r) x)) (bytes-parts ∙ append-assoc front d s)
-      ∙ ap (take (rangeCount r)) (drop-at front (d ++ s) (bodyPlace r) length-front)
-      ∙ take-at d s (rangeCount r) ld
+      ap (λ x. take (count a e) (drop (bodyPlace a) x)) (bytes-parts ∙ append-assoc front d s)
+      ∙ ap (take (count a e)) (drop-at front (d ++ s) (bodyPlace a) length-front)
+      ∙ take-at d s (count a e) ld
 
-  suffix-back : suffixOf r (commandBytes (Program r) d s) ≡ s
-  suffix-back = ap (drop (suffixPlace r)) bytes-parts ∙ drop-at (front ++ d) s (suffixPlace r) length-front-body
+  suffix-back : suffixOf a e (commandBytes k d s) ≡ s
+  suffix-back = ap (drop (suffixPlace a e)) bytes-parts ∙ drop-at (front ++ d) s (suffixPlace a e) length-front-body
 
 -- ---- reading what was written
 
 address-back : (a : ℕ) → a / 256 * 256 + a % 256 ≡ a
 address-back a = omega arith
 
-form-program : (r : Range) (d s : List ℕ) → 6 ≤ length (commandBytes (Program r) d s) → form (commandBytes (Program r) d s) ≡ some (Program r)
-unfolding form commandBytes headBytes
-form-program (Flash a e) d s h = rw (le-leb 6 _ h, address-back (a .0), address-back (e .0))
-form-program (Eeprom a e) d s h = rw (le-leb 6 _ h, address-back (a .0), address-back (e .0))
-
 form-back : (k : Command) (d s : List ℕ) → badWrite k (length d) (length s) ≡ false → form (commandBytes k d s) ≡ some k
 unfolding form commandBytes headBytes
-form-back (Program r) d s w = form-program r d s (omega arith)
+form-back (ProgramFlash a e) d s w =
+    let six : 6 ≤ length (commandBytes (ProgramFlash a e) d s) = omega arith in
+    rw (le-leb 6 _ six, address-back (a .0), address-back (e .0))
+form-back (ProgramEeprom a e) d s w =
+    let six : 6 ≤ length (commandBytes (ProgramEeprom a e) d s) = omega arith in
+    rw (le-leb 6 _ six, address-back (a .0), address-back (e .0))
 form-back (Read (Flash a e)) d s w = rw (address-back (a .0), address-back (e .0))
 form-back (Read (Eeprom a e)) d s w = rw (address-back (a .0), address-back (e .0))
 form-back (BlankCheck a e) d s w = rw (address-back (a .0), address-back (e .0))
@@ -133,24 +149,25 @@ reads-plain k d s p a w q l e = record {
   suffix = rw e (no-parts p .1);
 }
 
-reads-program : (r : Range) (d s : List ℕ) → badAddress (Program r) ≡ false → badWrite (Program r) (length d) (length s) ≡ false
-    → ReadsAs (commandBytes (Program r) d s) (Program r) d s
-reads-program r d s a w =
-    let l = right-lengths (length d) (length s) (rangeCount r) w in
-    let n : suffixPlace r - bodyPlace r ≡ rangeCount r = omega arith in
+reads-program : (k : Command) (a e : ℕ) → Carries k a e → (d s : List ℕ) → badAddress k ≡ false → badWrite k (length d) (length s) ≡ false
+    → ReadsAs (commandBytes k d s) k d s
+reads-program k a e t d s u w =
+    let l = right-lengths (count a e) (length d) (length s) (sym (t .checked (length d) (length s)) ∙ w) in
+    let n : suffixPlace a e - bodyPlace a ≡ count a e = omega arith in
     record {
-      command = taken (commandBytes (Program r) d s) (Program r) (record {
-        formed = form-back (Program r) d s w;
-        address-right = a;
-        length-right = rw (eq-eqb _ _ (length-bytes r d s (l .0) (l .1)));
+      command = taken (commandBytes k d s) k (record {
+        formed = form-back k d s w;
+        address-right = u;
+        length-right = rw (t .transfer, eq-eqb _ _ (length-bytes k a e t d s (l .0) (l .1)));
       });
-      body = rw n (body-back r d s (l .0) (l .1));
-      suffix = suffix-back r d s (l .0) (l .1);
+      body = rw (t .transfer, n) (body-back k a e t d s (l .0) (l .1));
+      suffix = rw (t .transfer) (suffix-back k a e t d s (l .0) (l .1));
     }
 
 reads : (k : Command) (d s : List ℕ) → badAddress k ≡ false → badWrite k (length d) (length s) ≡ false
     → ReadsAs (commandBytes k d s) k (carried k d) (carried k s)
-reads (Program r) d s a w = reads-program r d s a w
+reads (ProgramFlash a e) d s u w = reads-program (ProgramFlash a e) (a .0) (e .0) (carries-flash a e) d s u w
+reads (ProgramEeprom a e) d s u w = reads-program (ProgramEeprom a e) (a .0) (e .0) (carries-eeprom a e) d s u w
 reads (Read r) d s u w = reads-plain (Read r) d s _ u w refl refl refl
 reads (BlankCheck a e) d s u w = reads-plain (BlankCheck a e) d s _ u w refl refl refl
 reads (EraseBlock b) d s u w = reads-plain (EraseBlock b) d s _ u w refl refl refl
@@ -233,33 +250,29 @@ module _ (p : List ℕ) (each : Bytes p) where
     bytes = rw t (simp append-nil (sym (head-back k f) ∙ rw (← l) (take-length p)));
   }
 
-  program-head : (r : Range) → Formed p (Program r) → take 6 p ≡ headBytes (Program r)
-  unfolding headBytes
-  program-head r f = head-back (Program r) f
-
-  program-back : (r : Range) → Formed p (Program r) → Passed p (Program r) → ZeroFilled (Program r) p → Back (Program r)
+  program-back : (k : Command) (a e : ℕ) → Carries k a e → Formed p k → Passed p k → ZeroPadded a p → Back k
   unfolding commandBytes
-  program-back r f q z =
-      let total : length p ≡ transferLength r = eqb-true _ _ (not-false _ (q .length-right)) in
-      let n : suffixPlace r - bodyPlace r ≡ rangeCount r = omega arith in
-      let fill : ℕ = fillerSize + padding (rangeStart r) in
-      let d : List ℕ = take (rangeCount r) (drop (bodyPlace r) p) in
-      let t : List ℕ = drop (suffixPlace r) p in
-      let ld : length d ≡ rangeCount r = length-take-le (rangeCount r) (drop (bodyPlace r) p) (simp length-drop (omega arith)) in
+  program-back k a e c f q z =
+      let total : length p ≡ transferLength a e = eqb-true _ _ (not-false _ (rw (c .transfer) at (q .length-right))) in
+      let n : suffixPlace a e - bodyPlace a ≡ count a e = omega arith in
+      let fill : ℕ = fillerSize + padding a in
+      let d : List ℕ = take (count a e) (drop (bodyPlace a) p) in
+      let t : List ℕ = drop (suffixPlace a e) p in
+      let ld : length d ≡ count a e = length-take-le (count a e) (drop (bodyPlace a) p) (simp length-drop (omega arith)) in
       let ls : length t ≡ suffixSize = simp length-drop (omega arith) in
       let filled : take fill (drop 6 p) ≡ zeros fill = spelled fill 6 (omega arith) ∙ zeros-spelled fill 6 (λ j a b. z j a (omega arith)) in
-      let place : 6 + fill ≡ bodyPlace r = omega arith in
-      let start : headBytes (Program r) ++ zeros fill ≡ take (bodyPlace r) p
-      = rw (← program-head r f, ← filled, ← place) (sym (take-add 6 fill p)) in
+      let place : 6 + fill ≡ bodyPlace a = omega arith in
+      let head : take 6 p ≡ headBytes k = ap (λ i. take i p) (sym (c .six)) ∙ head-back k f in
+      let start : headBytes k ++ zeros fill ≡ take (bodyPlace a) p = rw (← head, ← filled, ← place) (sym (take-add 6 fill p)) in
       record {
-        right = rw (n, eq-eqb (length d) (rangeCount r) ld, eq-eqb (length t) suffixSize ls);
-        bytes = rw (n, take-length d, take-length t, start, ← take-add (bodyPlace r) (rangeCount r) p) (take-append-drop (suffixPlace r) p);
+        right = rw (c .checked, c .transfer, n, eq-eqb (length d) (count a e) ld, eq-eqb (length t) suffixSize ls);
+        bytes = rw (c .transfer, n, take-length d, take-length t, start, ← take-add (bodyPlace a) (count a e) p) (take-append-drop (suffixPlace a e) p);
       }
 
   back : (k : Command) → Formed p k → Passed p k → ZeroFilled k p → Back k
   unfolding headBytes
-  back k (program-flash q l) u z = program-back _ (program-flash q l) u z
-  back k (program-eeprom q l) u z = program-back _ (program-eeprom q l) u z
+  back k (program-flash q l) u z = program-back k _ _ (carries-flash _ _) (program-flash q l) u z
+  back k (program-eeprom q l) u z = program-back k _ _ (carries-eeprom _ _) (program-eeprom q l) u z
   back k (read-flash q l) u z = plain-back k (read-flash q l) l refl refl
   back k (read-eeprom q l) u z = plain-back k (read-eeprom q l) l refl refl
   back k (blank-check q l) u z = plain-back k (blank-check q l) l refl refl

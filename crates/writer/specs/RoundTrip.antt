@@ -5,8 +5,8 @@ use Prim.Native.Nat.{ℕ, _-_, _≤_, _<_}
 use lib.ListN.{length, take, drop}
 use Rattle.words.specs.Words.{byteAt}
 use Rattle.command.specs.declared.command.Command.{Command}
-use Rattle.command.specs.declared.command.Command.the-variants.{Program, Read, BlankCheck, EraseBlock, EraseChip, WriteByte, WriteHsb, StartReset, StartAt}
-use Rattle.command.specs.declared.command.Command.the-variants.{ReadVersion, ReadByte, ReadHsb}
+use Rattle.command.specs.declared.command.Command.the-variants.{ProgramFlash, ProgramEeprom, Read, BlankCheck, EraseBlock, EraseChip, WriteByte, WriteHsb}
+use Rattle.command.specs.declared.command.Command.the-variants.{StartReset, StartAt, ReadVersion, ReadByte, ReadHsb}
 use Rattle.command.specs.Transfer.{bodyPlace}
 use Rattle.command.specs.declared.reader.Parts.{Parts}
 use Rattle.command.specs.declared.reader.Reading.the-variants.{Taken}
@@ -22,7 +22,8 @@ suffixAt p d = drop (p .suffix) d
 
 -- what a command carries of the bytes that the writer was handed with it: a program transfer all, any other nothing
 abbrev pub carried : Command → List ℕ → List ℕ
-carried (Program r) x = x
+carried (ProgramFlash a e) x = x
+carried (ProgramEeprom a e) x = x
 carried (Read r) x = []
 carried (BlankCheck a e) x = []
 carried (EraseBlock k) x = []
@@ -46,9 +47,13 @@ abbrev pub ReadsBack : Type 0
 ReadsBack = (k : Command) (d s room : List ℕ) (n : ℕ) → writeCommand k d s room ≡ Wrote n
     → ReadsAs (take n (roomAfter k d s room)) k (carried k d) (carried k s)
 
--- "with zero filler and pad"
+-- "with zero filler and pad": a transfer from the address a on, in either memory; no other command has any
+abbrev pub ZeroPadded : ℕ → List ℕ → Type 0
+ZeroPadded a p = (i : ℕ) → 6 ≤ i → i < bodyPlace a → byteAt p i ≡ 0
+
 abbrev pub ZeroFilled : Command → List ℕ → Type 0
-ZeroFilled (Program r) p = (i : ℕ) → 6 ≤ i → i < bodyPlace r → byteAt p i ≡ 0
+ZeroFilled (ProgramFlash a e) p = ZeroPadded (a .0) p
+ZeroFilled (ProgramEeprom a e) p = ZeroPadded (a .0) p
 ZeroFilled (Read r) p = Unit {0}
 ZeroFilled (BlankCheck a e) p = Unit {0}
 ZeroFilled (EraseBlock k) p = Unit {0}

@@ -5,14 +5,14 @@ use mathlib.Core.List.{List, [], _∷_, _++_}
 use Prim.Native.Nat.{ℕ, _+_, _-_, _/_, _%_, _≤_}
 use lib.Dec.{eqb, ltb}
 use lib.ListN.{length, take, replicate}
-use Rattle.words.specs.Words.{if_then_else_, overlay}
+use Rattle.words.specs.Words.{if_then_else_, count, overlay}
 use Rattle.memory.specs.declared.address.Range.{Range}
 use Rattle.memory.specs.declared.address.Range.the-variants.{Flash, Eeprom}
-use Rattle.memory.specs.Memory.{rangeStart, rangeEnd, rangeCount}
+use Rattle.memory.specs.Memory.{rangeStart, rangeEnd}
 use Rattle.config.specs.Config.{readable, writable}
 use Rattle.command.specs.declared.command.Command.{Command}
-use Rattle.command.specs.declared.command.Command.the-variants.{Program, Read, BlankCheck, EraseBlock, EraseChip, WriteByte, WriteHsb, StartReset, StartAt}
-use Rattle.command.specs.declared.command.Command.the-variants.{ReadVersion, ReadByte, ReadHsb}
+use Rattle.command.specs.declared.command.Command.the-variants.{ProgramFlash, ProgramEeprom, Read, BlankCheck, EraseBlock, EraseChip, WriteByte, WriteHsb}
+use Rattle.command.specs.declared.command.Command.the-variants.{StartReset, StartAt, ReadVersion, ReadByte, ReadHsb}
 use Rattle.command.specs.Form.{blockCode}
 use Rattle.command.specs.Address.{badAddress}
 use Rattle.command.specs.declared.transfer.Transfer.{Transfer}
@@ -41,17 +41,10 @@ addressBytes a = a / 256 ∷ a % 256 ∷ []
 abbrev pub rangeAddresses : ℕ → ℕ → List ℕ
 rangeAddresses a e = addressBytes a ++ addressBytes e
 
--- one code for flash and another for EEPROM
-abbrev pub selector : ℕ → ℕ → Range → ℕ
-selector flash eeprom (Flash a e) = flash
-selector flash eeprom (Eeprom a e) = eeprom
-
--- "01h, 00h flash or 01h EEPROM", "03h, 00h flash or 02h EEPROM"
-abbrev pub programSelector : Range → ℕ
-programSelector r = selector 0x00 0x01 r
-
-abbrev pub readSelector : Range → ℕ
-readSelector r = selector 0x00 0x02 r
+-- "03h, 00h flash or 02h EEPROM": the second byte of a read
+abbrev pub readCode : Range → ℕ
+readCode (Flash a e) = 0x00
+readCode (Eeprom a e) = 0x02
 
 -- "The writer puts zero in filler and pad."
 abbrev pub zeros : ℕ → List ℕ
@@ -63,8 +56,9 @@ noTail = record { zeros = 0; body = 0; suffix = 0 }
 
 -- the rows of the table; of a program transfer, what stands before its filler
 unfoldable pub headBytes : Command → List ℕ
-headBytes (Program r) = 0x01 ∷ programSelector r ∷ rangeAddresses (rangeStart r) (rangeEnd r)
-headBytes (Read r) = 0x03 ∷ readSelector r ∷ rangeAddresses (rangeStart r) (rangeEnd r)
+headBytes (ProgramFlash a e) = 0x01 ∷ 0x00 ∷ rangeAddresses (a .0) (e .0)
+headBytes (ProgramEeprom a e) = 0x01 ∷ 0x01 ∷ rangeAddresses (a .0) (e .0)
+headBytes (Read r) = 0x03 ∷ readCode r ∷ rangeAddresses (rangeStart r) (rangeEnd r)
 headBytes (BlankCheck a e) = 0x03 ∷ 0x01 ∷ rangeAddresses (a .0) (e .0)
 headBytes (EraseBlock k) = 0x04 ∷ 0x00 ∷ blockCode k ∷ []
 headBytes EraseChip = 0x04 ∷ 0x00 ∷ 0xFF ∷ []
@@ -78,7 +72,7 @@ headBytes ReadHsb = 0x05 ∷ 0x02 ∷ 0x00 ∷ []
 
 -- how many zeros, bytes of the body and bytes of the suffix follow: none but in a program transfer. d and s are as many as given
 abbrev pub transferTail : Transfer → ℕ → ℕ → Tail
-transferTail (Of r) d s = record { zeros = fillerSize + padding (rangeStart r); body = d; suffix = s }
+transferTail (Of a e) d s = record { zeros = fillerSize + padding a; body = d; suffix = s }
 transferTail NoTransfer d s = noTail
 
 abbrev pub tailFor : Command → ℕ → ℕ → Tail
@@ -91,7 +85,7 @@ abbrev pub headed : ℕ → ℕ → ℕ → ℕ → ℕ → ℕ → ℕ → Head
 headed n a b c d e f = record { bytes = a ∷ b ∷ c ∷ d ∷ e ∷ f ∷ []; size = n }
 
 abbrev pub rangeHead : ℕ → ℕ → ℕ → ℕ → Head
-rangeHead group selector a e = headed 6 group selector (a / 256) (a % 256) (e / 256) (e % 256)
+rangeHead group code a e = headed 6 group code (a / 256) (a % 256) (e / 256) (e % 256)
 
 abbrev pub headOf : Command → Head
 headOf k = record { bytes = headBytes k ++ replicate (6 - length (headBytes k)) 0x00; size = length (headBytes k) }
@@ -126,9 +120,14 @@ commandBytes k d s =
 
 -- ---- its refusals
 
--- "for program data not as long as the range or suffix not 16 bytes, configuration index unknown"; d and s bytes of data and suffix
+-- "for program data not as long as the range or suffix not 16 bytes": a range of n bytes, d and s bytes of data and suffix
+abbrev pub badParts : ℕ → ℕ → ℕ → Bool
+badParts n d s = not (eqb d n) || not (eqb s suffixSize)
+
+-- the same of a program transfer, and "configuration index unknown"
 abbrev pub badWrite : Command → ℕ → ℕ → Bool
-badWrite (Program r) d s = not (eqb d (rangeCount r)) || not (eqb s suffixSize)
+badWrite (ProgramFlash a e) d s = badParts (count (a .0) (e .0)) d s
+badWrite (ProgramEeprom a e) d s = badParts (count (a .0) (e .0)) d s
 badWrite (Read r) d s = false
 badWrite (BlankCheck a e) d s = false
 badWrite (EraseBlock k) d s = false

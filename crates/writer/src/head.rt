@@ -3,7 +3,7 @@ ghost use mathlib.Core.Path.{_≡_};
 ghost use Prim.Native.Nat.{_/_, _%_};
 ghost use Rattle.memory.specs.Memory.{rangeStart, rangeEnd};
 ghost use Rattle.command.specs.Form.{blockCode};
-ghost use Rattle.writer.specs.Writer.{headOf, headed, rangeHead, selector};
+ghost use Rattle.writer.specs.Writer.{headOf, headed, rangeHead, readCode};
 use command::Command;
 use memory::Block;
 use memory::Range;
@@ -42,13 +42,12 @@ fn range_head(group: u8, code: u8, start: u16, end: u16) -> Head
     six(6, group, code, high(start), low(start), high(end), low(end))
 }
 
-// The same of a range, with one code for flash and another for EEPROM.
-fn memory_head(group: u8, flash: u8, eeprom: u8, range: Range) -> Head
-    ensures { λ r. ⌜ r ≡ rangeHead group (selector flash eeprom range) (rangeStart range) (rangeEnd range) ⌝ }
+fn read_head(range: Range) -> Head
+    ensures { λ r. ⌜ r ≡ rangeHead 0x03 (readCode range) (rangeStart range) (rangeEnd range) ⌝ }
 {
     match range {
-        Range::Flash(start, end) => range_head(group, flash, start.0, end.0),
-        Range::Eeprom(start, end) => range_head(group, eeprom, start.0, end.0),
+        Range::Flash(start, end) => range_head(0x03, 0x00, start.0, end.0),
+        Range::Eeprom(start, end) => range_head(0x03, 0x02, start.0, end.0),
     }
 }
 
@@ -66,8 +65,9 @@ pub(crate) fn head_of(command: Command) -> Head
     ensures { λ r. ⌜ r ≡ headOf command ⌝ }
 {
     match command {
-        Command::Program(range) => memory_head(0x01, 0x00, 0x01, range),
-        Command::Read(range) => memory_head(0x03, 0x00, 0x02, range),
+        Command::ProgramFlash(start, end) => range_head(0x01, 0x00, start.0, end.0),
+        Command::ProgramEeprom(start, end) => range_head(0x01, 0x01, start.0, end.0),
+        Command::Read(range) => read_head(range),
         Command::BlankCheck(start, end) => range_head(0x03, 0x01, start.0, end.0),
         Command::EraseBlock(block) => six(3, 0x04, 0x00, block_code(block), 0, 0, 0),
         Command::EraseChip => six(3, 0x04, 0x00, 0xFF, 0, 0, 0),

@@ -1,6 +1,7 @@
 // A command, its body and its suffix, written into a lent room.
 ghost use mathlib.Core.Path.{_≡_};
-ghost use Rattle.writer.specs.Writer.{Put, tailFor, badWrite, putBytes, putAnswer, putRoom, writeCommand, roomAfter};
+ghost use Rattle.words.specs.Words.{count};
+ghost use Rattle.writer.specs.Writer.{Put, tailFor, badParts, badWrite, putBytes, putAnswer, putRoom, writeCommand, roomAfter};
 ghost use Rattle.writer.specs.Writer.{writtenNumber, writtenCount};
 use crate::head::Head;
 use crate::head::head_of;
@@ -50,8 +51,8 @@ fn tail_of(command: Command, body: usize, suffix: usize) -> Tail
     ensures { λ r. ⌜ r ≡ tailFor command body suffix ⌝ }
 {
     match command::transfer_of(command) {
-        Transfer::Of(range) => Tail {
-            zeros: command::body_place(range) - 6,
+        Transfer::Of(start, _) => Tail {
+            zeros: command::body_place(start) - 6,
             body,
             suffix,
         },
@@ -63,17 +64,23 @@ fn tail_of(command: Command, body: usize, suffix: usize) -> Tail
     }
 }
 
+// Whether a transfer's body is not as long as its range, or its suffix not 16 bytes.
+fn bad_parts(start: u16, end: u16, body: usize, suffix: usize) -> bool
+    ensures { λ r. ⌜ r ≡ badParts (count start end) body suffix ⌝ }
+{
+    if body != command::bytes_between(start, end) {
+        return true;
+    }
+    suffix != SUFFIX_SIZE
+}
+
 // Whether a command's body, suffix or index is wrong.
 fn bad_write(command: Command, body: usize, suffix: usize) -> bool
     ensures { λ r. ⌜ r ≡ badWrite command body suffix ⌝ }
 {
     match command {
-        Command::Program(range) => {
-            if body != command::range_count(range) {
-                return true;
-            }
-            suffix != SUFFIX_SIZE
-        }
+        Command::ProgramFlash(start, end) => bad_parts(start.0, end.0, body, suffix),
+        Command::ProgramEeprom(start, end) => bad_parts(start.0, end.0, body, suffix),
         Command::WriteByte(index, _) => !config::is_writable(index),
         Command::ReadByte(index) => !config::is_readable(index),
         _ => false,

@@ -60,7 +60,7 @@ pub fn difference(payload: &[u8], tally: &mut Tally) -> Option<String> {
     }
     // A command without data and suffix has two empty places: ours at the payload's end, the second's at its front.
     let places = match read {
-        Command::Program { .. } => (data_place.start, suffix_place.start),
+        Command::ProgramFlash { .. } | Command::ProgramEeprom { .. } => (data_place.start, suffix_place.start),
         _ => (payload.len(), payload.len()),
     };
     if (body, suffix) != places || suffix > payload.len() {
@@ -96,8 +96,10 @@ pub fn writing(random: &mut Random) -> Writing {
     if kind == 9 || kind == 14 {
         command = command & !0xFF0000 | (random.below(0x63) as u64) << 16;
     }
+    let span = |start: u16, end: u16| usize::from(end.saturating_sub(start)) + 1;
     let mut count = match layout::command(command) {
-        Command::Program { start, end, .. } => usize::from(end.saturating_sub(start)) + 1,
+        Command::ProgramFlash { start, end } => span(start.0, end.0),
+        Command::ProgramEeprom { start, end } => span(start.0, end.0),
         _ => random.below(3),
     }
     .min(1100);

@@ -1,6 +1,6 @@
 //! The second program's values as the numbers of crates/numbers/specs/Layout.antt, and back.
 
-use second::{Block, Command, Config, Memory, Outcome, Pending, Session, StartKind};
+use second::{Block, Command, Config, EepromAddress, FlashAddress, Memory, Outcome, Pending, Session, StartKind};
 
 fn packed(words: [u16; 4]) -> u64 {
     words.iter().rev().fold(0, |n, &word| n << 16 | u64::from(word))
@@ -68,7 +68,8 @@ pub fn pack_outcome(outcome: &Outcome) -> u64 {
 pub fn pack_command(command: &Command) -> u64 {
     let eeprom = |memory| u16::from(memory == Memory::Eeprom);
     packed(match *command {
-        Command::Program { memory, start, end } => [eeprom(memory), start, end, 0],
+        Command::ProgramFlash { start, end } => [0, start.0, end.0, 0],
+        Command::ProgramEeprom { start, end } => [1, start.0, end.0, 0],
         Command::Read { memory, start, end } => [2 + eeprom(memory), start, end, 0],
         Command::BlankCheck { start, end } => [4, start, end, 0],
         Command::EraseBlock(Block::First) => [5, 0, 0, 0],
@@ -89,8 +90,8 @@ pub fn command(n: u64) -> Command {
     let [kind, first, last, _] = words(n);
     let (start, end) = (first, last);
     match kind {
-        0 => Command::Program { memory: Memory::Flash, start, end },
-        1 => Command::Program { memory: Memory::Eeprom, start, end },
+        0 => Command::ProgramFlash { start: FlashAddress(start), end: FlashAddress(end) },
+        1 => Command::ProgramEeprom { start: EepromAddress(start), end: EepromAddress(end) },
         2 => Command::Read { memory: Memory::Flash, start, end },
         3 => Command::Read { memory: Memory::Eeprom, start, end },
         4 => Command::BlankCheck { start, end },

@@ -1,7 +1,8 @@
 //! Compares the loader, through the functions that crates/exports exports, with the second program.
 //!
-//! `compare [SEQUENCES [SEED [BENCH...]]]`: a board of every SSB value, blank checks at the edges of pages, the serial plug, then so many
-//! sequences and as many jobs; BENCH are the words that start our bench program.
+//! `compare [SEQUENCES [SEED [BENCH...]]]`: program transfers to both memories at the same addresses, a board of every SSB value, blank
+//! checks at the edges of pages, the serial plug, then so many sequences and as many jobs; BENCH are the words that start our bench
+//! program.
 //! It prints how often each thing was reached, and fails at the first difference, or if something was not reached.
 
 mod commands;
@@ -9,6 +10,7 @@ mod every_ssb;
 mod jobs;
 mod layout;
 mod make;
+mod memories_apart;
 mod page_edges;
 mod random;
 mod sequence;
@@ -65,11 +67,14 @@ fn main() -> ExitCode {
     ExitCode::SUCCESS
 }
 
-/// The boards of every SSB value, and those with a byte at an edge of a page.
+/// The boards of each level with both memories programmed, those of every SSB value, and those with a byte at an edge of a page.
 fn boards(tally: &mut Tally) -> Option<String> {
+    let apart = memories_apart::LEVELS
+        .iter()
+        .map(|&ssb| (format!("with both memories programmed at SSB {ssb:02X}h"), memories_apart::sequence(ssb)));
     let every_ssb = (0..=255).map(|ssb| (format!("at SSB {ssb:02X}h"), every_ssb::sequence(ssb)));
     let page_edges = page_edges::PLACES.iter().map(|&used| (format!("with a byte at {used:04X}h"), page_edges::sequence(used)));
-    every_ssb.chain(page_edges).find_map(|(place, sequence)| {
+    apart.chain(every_ssb).chain(page_edges).find_map(|(place, sequence)| {
         sequence.run(tally)?;
         Some(format!("{place}\n{}", told(&shrink::sequence(sequence))))
     })

@@ -6,7 +6,7 @@ use Rattle.command.proofs.form.blank_form.Statement.{statement}
 use Rattle.command.proofs.form.blank_form.Tie as tie
 
 returns : tie.Need-returns
-returns c = c .exact .ensures ∙ rw (c .before .before .high-at .ensures, c .before .high-at2 .ensures)
+returns c = c .exact .ensures ∙ rw (c .before .before .flash-at .ensures, c .before .flash-at2 .ensures)
 
 pub blank-form-spec : {M : Type 1} → statement M
 blank-form-spec = tie.close (tie.spec (λ c κs. search needs) (λ c κs. search needs) (λ c κs. search needs) returns)

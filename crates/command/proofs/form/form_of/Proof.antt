@@ -19,24 +19,20 @@ returns : tie.Need-returns
 returns c = rw (form-short _ (c .if1 .taken))
 
 returns-2 : tie.Need-returns-2
-returns-2 c =
-    let arm = c .before .before in
-    by-row _ 0x0100 _ (arm .before .high-at .ensures) (arm .match .keys1) (c .six-or-more .ensures ∙ rw (c .before .flash-range .ensures))
+returns-2 c = by-row _ 0x0100 _ (c .before .before .high-at .ensures) (c .before .match .keys1) (c .program-flash-form .ensures)
 
 returns-3 : tie.Need-returns-3
-returns-3 c =
-    let arm = c .before .before in
-    by-row _ 0x0101 _ (arm .before .high-at .ensures) (arm .match .keys2) (c .six-or-more2 .ensures ∙ rw (c .before .eeprom-range .ensures))
+returns-3 c = by-row _ 0x0101 _ (c .before .before .high-at .ensures) (c .before .match .keys2) (c .program-eeprom-form .ensures)
 
 returns-4 : tie.Need-returns-4
 returns-4 c =
     let arm = c .before .before in
-    by-row _ 0x0300 _ (arm .before .high-at .ensures) (arm .match .keys3) (c .exact .ensures ∙ rw (c .before .flash-range2 .ensures))
+    by-row _ 0x0300 _ (arm .before .high-at .ensures) (arm .match .keys3) (c .exact .ensures ∙ rw (c .before .flash-range .ensures))
 
 returns-5 : tie.Need-returns-5
 returns-5 c =
     let arm = c .before .before in
-    by-row _ 0x0302 _ (arm .before .high-at .ensures) (arm .match .keys4) (c .exact2 .ensures ∙ rw (c .before .eeprom-range2 .ensures))
+    by-row _ 0x0302 _ (arm .before .high-at .ensures) (arm .match .keys4) (c .exact2 .ensures ∙ rw (c .before .eeprom-range .ensures))
 
 returns-6 : tie.Need-returns-6
 returns-6 c = by-row _ 0x0301 _ (c .before .before .high-at .ensures) (c .before .match .keys5) (c .blank-form .ensures)
@@ -89,5 +85,5 @@ pub form-of-spec : {M : Type 1} → statement M
 form-of-spec = tie.close (tie.spec
     returns (λ c κs. search needs) (λ c κs. search needs) (λ c κs. search needs) (λ c κs. search needs) (λ c κs. search needs) (λ c κs. search needs)
     (λ c κs. search needs) (λ c κs. search needs) (λ c κs. search needs) (λ c κs. search needs) (λ c κs. search needs) (λ c κs. search needs)
-    (λ c κs. search needs) (λ c κs. search needs) (λ c κs. search needs) (λ c κs. search needs) (λ c κs. search needs) (λ c κs. search needs)
+    (λ c κs. search needs) (λ c κs. search needs) (λ c κs. search needs) (λ c κs. search needs)
     returns-2 returns-3 returns-4 returns-5 returns-6 returns-7 returns-8 returns-9 returns-10 returns-11 returns-12 returns-13 returns-14)

@@ -12,7 +12,7 @@ returns c = c .exact .ensures ∙ simp (← c .before .before .byte-at .ensures,
 returns-2 : tie.Need-returns-2
 returns-2 c =
     let arm = c .before .before in
-    c .exact2 .ensures ∙ simp (c .before .high-at .ensures, ← arm .before .byte-at .ensures, arm .match .keys2)
+    c .exact2 .ensures ∙ simp (c .before .flash-at .ensures, ← arm .before .byte-at .ensures, arm .match .keys2)
 
 returns-3 : tie.Need-returns-3
 returns-3 c = simp (← c .before .byte-at .ensures, ne-eqb _ _ (c .match .rest .0 .1), ne-eqb _ _ (c .match .rest .1))

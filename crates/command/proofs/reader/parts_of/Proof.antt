@@ -3,29 +3,28 @@
 use mathlib.Core.Path.{_≡_, sym, _∙_}
 use Prim.Native.Nat.{ℕ, _+_}
 use native.Mathlib.Omega.{arith}
-use Rattle.memory.specs.declared.address.Range.{Range}
-use Rattle.memory.specs.Memory.{rangeCount}
+use Rattle.words.specs.Words.{count}
 use Rattle.command.specs.Transfer.{Transfer, Of, NoTransfer, bodyPlace}
 use Rattle.command.specs.Reader.{parts, transferParts}
 use borrow.Author.Needs.{needs}
 use Rattle.command.proofs.reader.parts_of.Statement.{statement}
 use Rattle.command.proofs.reader.parts_of.Tie as tie
 
-of-transfer : (t : Transfer) (r : Range) (n place bytes : ℕ) → t ≡ Of r → place ≡ bodyPlace r → bytes ≡ rangeCount r
+of-transfer : (t : Transfer) (a e n place bytes : ℕ) → t ≡ Of a e → place ≡ bodyPlace a → bytes ≡ count a e
     → parts place (place + bytes) ≡ transferParts t n
-of-transfer t r n place bytes q p e = rw (q, p, e)
+of-transfer t a e n place bytes q p k = rw (q, p, k)
 
 of-none : (t : Transfer) (n : ℕ) → t ≡ NoTransfer → parts n n ≡ transferParts t n
 of-none t n q = rw q
 
-add-suffix : tie.Need-add-t8
+add-suffix : tie.Need-add-suffix
 add-suffix c = omega arith
 
 returns : tie.Need-returns
 returns c =
     let arm = c .before .before .before in
-    let is = sym (arm .before .before .transfer-of .ensures) ∙ arm .range .given .1 in
-    of-transfer _ _ _ _ _ is (c .before .body-place .ensures) (c .range-count .ensures .0)
+    let is = sym (arm .before .before .transfer-of .ensures) ∙ arm .start .given .1 in
+    of-transfer _ _ _ _ _ _ is (c .before .body-place .ensures) (c .bytes-between .ensures .0)
 
 returns-2 : tie.Need-returns-2
 returns-2 c = of-none _ _ (sym (c .before .before .transfer-of .ensures) ∙ c .enum-told .given .1)

@@ -7,42 +7,35 @@ use Prim.Native.Nat.{ℕ, _+_, _-_, _%_, _≤_, _<_}
 use native.Mathlib.Omega.{arith}
 use lib.ListN.{length}
 use borrow.Author.Needs.{needs}
-use borrow.Author.Tests.{not-true, not-false}
 use Rattle.words.specs.Words.{overlay}
-use Rattle.memory.specs.Memory.{FlashAddress, flashSize, flashPages, pageSize, mostFlash}
+use Rattle.memory.specs.Memory.{FlashAddress, flashSize, pageSize, mostFlash}
 use Rattle.memory.specs.Pages.{storeAll, pagesMet}
 use Rattle.memory.specs.Program.{programmable, flashStores}
-use Rattle.memory.proofs.PagesLaws.{storeAll-programStores, length-programStores}
-use Rattle.memory.proofs.ProgramLaws.{Fit, programmable-fit}
+use Rattle.memory.proofs.PagesLaws.{length-programStores}
+use Rattle.memory.proofs.ProgramLaws.{Fit, told-not, told-fit, memoryAfter-fit, flashStores-not, flashStores-fit, storeAll-flashStores}
 use Rattle.memory.proofs.programming.program_flash.Statement.{statement}
 use Rattle.memory.proofs.programming.program_flash.Tie as tie
 
 -- by the answer r to whether the range can be programmed
 module _ (a e : FlashAddress) (d m : List ℕ) (r : Bool) (told : r ≡ programmable flashSize (a .0) (e .0) d m) where
   not-stored : not r ≡ true → (0 ≡ length (flashStores a e d m)) × (m ≡ storeAll (flashStores a e d m) m)
-  unfolding flashStores
   not-stored h =
-      let t : programmable flashSize (a .0) (e .0) d m ≡ false = sym told ∙ not-true r h in
-      (rw t, rw t)
+      let none = flashStores-not a e d m (told-not flashSize (a .0) (e .0) d m r told h) in
+      (rw none, rw none)
 
   module _ (h : not r ≡ false) where
-    can : programmable flashSize (a .0) (e .0) d m ≡ true
-    can = sym told ∙ not-false r h
-
     fit : Fit flashSize (a .0) (e .0) d m
-    fit = programmable-fit flashSize (a .0) (e .0) d m can
+    fit = told-fit flashSize (a .0) (e .0) d m r told h
 
     pages-fit : ((0 < length d) × (a .0 + length d ≤ length m)) × ((length m % pageSize ≡ 0) × (length m ≤ mostFlash))
     pages-fit = ((omega (arith, fit), omega (arith, fit)), (rw (fit .right-size), omega (arith, fit)))
 
     stored : (m′ : List ℕ) (n : ℕ) → n ≡ pagesMet (a .0) (a .0 + length d - 1) → m′ ≡ overlay (a .0) d m
         → (n ≡ length (flashStores a e d m)) × (m′ ≡ storeAll (flashStores a e d m) m)
-    unfolding flashStores
     stored m′ n qn qm =
-        let last : a .0 + length d - 1 ≡ e .0 = omega (arith, fit) in
-        let inside : e .0 < length m = omega (arith, fit) in (
-          rw can (qn ∙ ap (pagesMet (a .0)) last ∙ sym (length-programStores (a .0) (e .0) d m)),
-          rw can (qm ∙ sym (storeAll-programStores (a .0) (e .0) d m flashPages (fit .right-size) (fit .forward) inside (fit .right-count))),
+        let last : a .0 + length d - 1 ≡ e .0 = omega (arith, fit) in (
+          qn ∙ ap (pagesMet (a .0)) last ∙ sym (ap length (flashStores-fit a e d m fit) ∙ length-programStores (a .0) (e .0) d m),
+          qm ∙ sym (storeAll-flashStores a e d m ∙ memoryAfter-fit flashSize (a .0) (e .0) d m fit),
         )
 
 returns : tie.Need-returns

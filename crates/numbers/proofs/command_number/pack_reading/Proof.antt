@@ -1,8 +1,8 @@
--- `numbers::command_number::pack_range` meets its contract.
+-- `numbers::command_number::pack_reading` meets its contract.
 -- Assumes nothing.
 use borrow.Author.Needs.{needs}
-use Rattle.numbers.proofs.command_number.pack_range.Statement.{statement}
-use Rattle.numbers.proofs.command_number.pack_range.Tie as tie
+use Rattle.numbers.proofs.command_number.pack_reading.Statement.{statement}
+use Rattle.numbers.proofs.command_number.pack_reading.Tie as tie
 
 returns : tie.Need-returns
 returns c = rw (c .before .before .range .given .1) (c .pack-words .ensures)
@@ -10,6 +10,5 @@ returns c = rw (c .before .before .range .given .1) (c .pack-words .ensures)
 returns-2 : tie.Need-returns-2
 returns-2 c = rw (c .before .before .range2 .given .1) (c .pack-words2 .ensures)
 
-pub pack-range-spec : {M : Type 1} → statement M
-pack-range-spec = tie.close (tie.spec
-    (λ c. search needs) (λ c κs. search needs) (λ c. search needs) (λ c. search needs) (λ c κs. search needs) returns returns-2)
+pub pack-reading-spec : {M : Type 1} → statement M
+pack-reading-spec = tie.close (tie.spec (λ c. search needs) (λ c κs. search needs) (λ c. search needs) (λ c κs. search needs) returns returns-2)

@@ -22,13 +22,14 @@ module _ (k : Command) (l : Level) (i v : ℕ) (q : k ≡ WriteByte i v) where
 returns : tie.Need-returns
 returns c = of-ssb _ _ _ _ (c .before .before .before .command .given .1) _ (c .before .if1 .taken) (c .ssb-row .ensures)
 
-returns-7 : tie.Need-returns-7
-returns-7 c = of-other _ _ _ _ (c .before .before .command .given .1) (c .if1 .left)
+returns-8 : tie.Need-returns-8
+returns-8 c = of-other _ _ _ _ (c .before .before .command .given .1) (c .if1 .left)
 
 pub level-status-spec : {M : Type 1} → statement M
 level-status-spec = tie.close
     (tie.spec (λ c. search needs) (λ c κs. search needs) (λ c. search needs) (λ c κs. search needs) (λ c. search needs) (λ c κs. search needs)
-    (λ c. search needs) (λ c κs. search needs) (λ c. search needs) (λ c κs. search needs) (λ c. search needs) (λ c κs. search needs) returns
+    (λ c. search needs) (λ c κs. search needs) (λ c. search needs) (λ c κs. search needs) (λ c. search needs) (λ c κs. search needs)
+    (λ c. search needs) (λ c κs. search needs) returns (λ c. search needs) (λ c. search needs) (λ c. search needs)
     (λ c. search needs) (λ c. search needs) (λ c. search needs) (λ c. search needs) (λ c. search needs) (λ c. search needs)
-    (λ c. search needs) (λ c. search needs) (λ c. search needs) (λ c. search needs) (λ c. search needs) returns-7 (λ c. search needs)
-    (λ c. search needs) (λ c. search needs) (λ c. search needs) (λ c. search needs) (λ c. search needs))
+    (λ c. search needs) (λ c. search needs) (λ c. search needs) returns-8 (λ c. search needs) (λ c. search needs)
+    (λ c. search needs) (λ c. search needs) (λ c. search needs) (λ c. search needs))

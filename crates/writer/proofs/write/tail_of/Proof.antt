@@ -3,8 +3,6 @@
 use mathlib.Core.Path.{_≡_, sym, _∙_}
 use Prim.Native.Nat.{ℕ, _+_, _-_}
 use native.Mathlib.Omega.{arith}
-use Rattle.memory.specs.declared.address.Range.{Range}
-use Rattle.memory.specs.Memory.{rangeStart}
 use Rattle.command.specs.declared.transfer.Transfer.{Transfer}
 use Rattle.command.specs.declared.transfer.Transfer.the-variants.{Of, NoTransfer}
 use Rattle.command.specs.Transfer.{bodyPlace, fillerSize, padding}
@@ -13,17 +11,19 @@ use borrow.Author.Needs.{needs}
 use Rattle.writer.proofs.write.tail_of.Statement.{statement}
 use Rattle.writer.proofs.write.tail_of.Tie as tie
 
-of-transfer : (t : Transfer) (r : Range) (d s place : ℕ) → t ≡ Of r → place ≡ bodyPlace r
+of-transfer : (t : Transfer) (a e d s place : ℕ) → t ≡ Of a e → place ≡ bodyPlace a
     → record { zeros = place - 6; body = d; suffix = s } ≡ transferTail t d s
-of-transfer t r d s place q p =
-    let z : place - 6 ≡ fillerSize + padding (rangeStart r) = omega arith in
+of-transfer t a e d s place q p =
+    let z : place - 6 ≡ fillerSize + padding a = omega arith in
     rw (q, z)
 
 of-none : (t : Transfer) (d s : ℕ) → t ≡ NoTransfer → noTail ≡ transferTail t d s
 of-none t d s q = rw q
 
 returns : tie.Need-returns
-returns c = of-transfer _ _ _ _ _ (sym (c .before .before .before .before .transfer-of .ensures) ∙ c .before .before .range .given .1) (c .body-place .ensures)
+returns c =
+    let arm = c .before .before in
+    of-transfer _ _ _ _ _ _ (sym (arm .before .before .transfer-of .ensures) ∙ arm .start .given .1) (c .body-place .ensures)
 
 returns-2 : tie.Need-returns-2
 returns-2 c = of-none _ _ _ (sym (c .before .before .transfer-of .ensures) ∙ c .enum-told .given .1)

@@ -3,16 +3,18 @@
 use mathlib.Core.Path.{_≡_, sym, _∙_}
 use mathlib.Core.Bool.{true, false, _||_}
 use mathlib.Core.List.{List}
-use Prim.Native.Nat.{ℕ, zero-le}
+use Prim.Native.Nat.{ℕ, _+_, zero-le}
 use native.Mathlib.Omega.{arith}
 use lib.ListN.{length}
-use Rattle.memory.specs.Memory.{rangeCount}
-use Rattle.command.proofs.AddressLaws.{badRange-good}
+use Rattle.words.specs.Words.{count}
+use Rattle.memory.specs.Memory.{flashSize, eepromSize}
+use Rattle.command.proofs.AddressLaws.{Good, badEnds-good}
+use Rattle.command.specs.Transfer.{fillerSize, padding}
 use Rattle.command.specs.declared.command.Command.{Command}
-use Rattle.command.specs.declared.command.Command.the-variants.{Program, Read, BlankCheck, EraseBlock, EraseChip, WriteByte, WriteHsb, StartReset, StartAt}
-use Rattle.command.specs.declared.command.Command.the-variants.{ReadVersion, ReadByte, ReadHsb}
+use Rattle.command.specs.declared.command.Command.the-variants.{ProgramFlash, ProgramEeprom, Read, BlankCheck, EraseBlock, EraseChip, WriteByte, WriteHsb}
+use Rattle.command.specs.declared.command.Command.the-variants.{StartReset, StartAt, ReadVersion, ReadByte, ReadHsb}
 use Rattle.command.specs.Address.{badAddress}
-use Rattle.writer.specs.Writer.{Head, Tail, Written, Unwritten, Put, noTail, tailFor, headOf, badWrite}
+use Rattle.writer.specs.Writer.{Head, Tail, Written, Unwritten, Put, noTail, tailFor, headOf, badParts, badWrite}
 use Rattle.writer.specs.Writer.{putBytes, putAnswer, putRoom, commandBytes, writeCommand, roomAfter}
 use Rattle.writer.proofs.WriterLaws.{length-headBytes-le, length-headOf, take-headOf, right-lengths}
 use borrow.Author.Needs.{needs}
@@ -31,19 +33,25 @@ no-tail k d s t q = rw q (record {
 })
 
 module _ (d s : List ℕ) where
-  puts : (k : Command) (t : Tail) → badAddress k ≡ false → badWrite k (length d) (length s) ≡ false
-      → t ≡ tailFor k (length d) (length s) → Put (headOf k) t d s
-  puts (Program r) t u w q =
-      let l = right-lengths (length d) (length s) (rangeCount r) w in
+  -- a transfer, in a memory of any size
+  transfer-tail : (k : Command) (t : Tail) (size a e : ℕ) → Good size a e → badParts (count a e) (length d) (length s) ≡ false
+      → t ≡ record { zeros = fillerSize + padding a; body = length d; suffix = length s } → Put (headOf k) t d s
+  transfer-tail k t size a e g w q =
+      let l = right-lengths (count a e) (length d) (length s) w in
       rw q (record {
-        head-fits = length-headBytes-le (Program r);
-        head-whole = length-headOf (Program r);
+        head-fits = length-headBytes-le k;
+        head-whole = length-headOf k;
         zeros-fit = omega arith;
         body-fits = omega arith;
-        body-short = omega (arith, l, badRange-good r u .short);
+        body-short = omega (arith, l, g .short);
         suffix-fits = omega arith;
         suffix-short = omega (arith, l);
       })
+
+  puts : (k : Command) (t : Tail) → badAddress k ≡ false → badWrite k (length d) (length s) ≡ false
+      → t ≡ tailFor k (length d) (length s) → Put (headOf k) t d s
+  puts (ProgramFlash a e) t u w q = transfer-tail (ProgramFlash a e) t flashSize (a .0) (e .0) (badEnds-good flashSize (a .0) (e .0) u) w q
+  puts (ProgramEeprom a e) t u w q = transfer-tail (ProgramEeprom a e) t eepromSize (a .0) (e .0) (badEnds-good eepromSize (a .0) (e .0) u) w q
   puts (Read r) t u w q = no-tail (Read r) d s t q
   puts (BlankCheck a e) t u w q = no-tail (BlankCheck a e) d s t q
   puts (EraseBlock b) t u w q = no-tail (EraseBlock b) d s t q
