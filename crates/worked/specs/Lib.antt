@@ -1,2 +1,3 @@
 -- What the examples expect.
 pub mod OddBoard
+pub mod Apart

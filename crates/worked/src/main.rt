@@ -1,7 +1,8 @@
-// The worked examples of document 01, and of P1 of 02, run through the public functions. Each check is proved before it is run.
+// The worked examples of document 01, and of P1 and P4 of 02, run through the public functions. Each check is proved before it is run.
 ghost use mathlib.Core.Path.{_≡_};
 ghost use Rattle.memory.specs.Memory.{flashAddress};
 
+mod apart;
 mod odd_board;
 
 use command::Command;
@@ -39,4 +40,5 @@ fn main() {
     addresses();
     security_bits();
     odd_board::odd_board();
+    apart::apart();
 }
