@@ -10,8 +10,6 @@ use Rattle.command.proofs.form.form_of.Reads as form-of
 use Rattle.command.proofs.reader.parts_of.Reads as parts-of
 use Rattle.command.proofs.reader.read_command.Reads as read-command
 use Rattle.command.proofs.transfer.range_count.Reads as range-count
-use Rattle.command.proofs.transfer.bytes_between.Reads as bytes-between
-use Rattle.command.proofs.transfer.body_place.Reads as body-place
 use Rattle.command.proofs.transfer.wrong_length.Reads as wrong-length
 use Rattle.command.proofs.reader.reading_status.Reads as reading-status
 use Rattle.command.proofs.transfer.transfer_of.Reads as transfer-of
@@ -36,12 +34,6 @@ of-read-command κs a r r′ s s′ p q = one p q
 
 pub of-range-count : (κs : _) (a : _) (r r′ : _) (s s′ : _) → range-count.Post κs a r s → range-count.Post κs a r′ s′ → r ≡ r′
 of-range-count κs a r r′ s s′ p q = one (p .0) (q .0)
-
-pub of-bytes-between : (κs : _) (a : _) (r r′ : _) (s s′ : _) → bytes-between.Post κs a r s → bytes-between.Post κs a r′ s′ → r ≡ r′
-of-bytes-between κs a r r′ s s′ p q = one (p .0) (q .0)
-
-pub of-body-place : (κs : _) (a : _) (r r′ : _) (s s′ : _) → body-place.Post κs a r s → body-place.Post κs a r′ s′ → r ≡ r′
-of-body-place κs a r r′ s s′ p q = one p q
 
 pub of-wrong-length : (κs : _) (a : _) (r r′ : _) (s s′ : _) → wrong-length.Post κs a r s → wrong-length.Post κs a r′ s′ → r ≡ r′
 of-wrong-length κs a r r′ s s′ p q = one p q

@@ -143,7 +143,7 @@ fn index_form(sent: &[u8]) -> Form
     Form::Unlisted
 }
 
-// The command that the data is, by its form alone. Here alone a code chooses the memory that is programmed.
+// The command that the data is, by its form alone. Of all that the loader is sent, only this chooses the memory to program.
 pub fn form_of(sent: &[u8]) -> Form
     ensures { λ r. ⌜ r ≡ formOf (form (now (sent .entry))) ⌝ }
 {

@@ -19,14 +19,14 @@ pub use reader::parts_of;
 pub use reader::read_command;
 pub use reader::reading_status;
 pub use transfer::Transfer;
-pub use transfer::body_place;
-pub use transfer::bytes_between;
 pub use transfer::range_count;
 pub use transfer::transfer_of;
 pub use transfer::wrong_length;
 
-// "32 bytes of command", "16 suffix bytes", and the most bytes to program or read.
+// "32 bytes of command (26 not looked at)", "16 suffix bytes", and the most bytes to program or read.
 pub const COMMAND_SIZE: usize = 32;
+
+pub const FILLER_SIZE: usize = 26;
 
 pub const SUFFIX_SIZE: usize = 16;
 

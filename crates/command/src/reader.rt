@@ -2,14 +2,13 @@
 ghost use mathlib.Core.Path.{_≡_};
 ghost use Rattle.command.specs.Reader.{partsFor, readCommand, readingStatus};
 use crate::BAD_ADDRESS_STATUS;
+use crate::COMMAND_SIZE;
 use crate::STALL_STATUS;
 use crate::check::bad_address;
 use crate::command::Command;
 use crate::form::Form;
 use crate::form::form_of;
 use crate::transfer::Transfer;
-use crate::transfer::body_place;
-use crate::transfer::bytes_between;
 use crate::transfer::transfer_of;
 use crate::transfer::wrong_length;
 
@@ -43,9 +42,9 @@ pub fn parts_of(command: Command, n: usize) -> Parts
     ensures { λ r. ⌜ r ≡ partsFor command n ⌝ }
 {
     match transfer_of(command) {
-        Transfer::Of(start, end) => {
-            let body = body_place(start);
-            let suffix = body + bytes_between(start, end);
+        Transfer::Of(pad, bytes) => {
+            let body = COMMAND_SIZE + (pad as usize);
+            let suffix = body + (bytes as usize);
             Parts { body, suffix }
         }
         Transfer::NoTransfer => Parts { body: n, suffix: n },

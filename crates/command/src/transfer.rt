@@ -3,16 +3,15 @@ ghost use mathlib.Core.Path.{_≡_};
 ghost use Prim.Native.Nat.{_≤_};
 ghost use Rattle.words.specs.Words.{count};
 ghost use Rattle.memory.specs.Memory.{rangeCount};
-ghost use Rattle.command.specs.Transfer.{bodyPlace, transferOf, wrongLength};
+ghost use Rattle.command.specs.Transfer.{padding, transferOf, wrongLength};
 use crate::COMMAND_SIZE;
 use crate::SUFFIX_SIZE;
 use crate::command::Command;
 use memory::Range;
 
-// Whether a command is a program transfer: one from this address to that one, whichever memory they are of. The layout is the same for
-// both memories, so that the addresses are plain numbers here.
+// A program transfer, to either memory, by its X and its n; or no transfer.
 pub enum Transfer {
-    Of(u16, u16),
+    Of(u8, u32),
     NoTransfer,
 }
 
@@ -28,7 +27,7 @@ pub fn range_count(range: Range) -> usize
 }
 
 // How many bytes stand from one address to another, both of them counted; 0 where the first is past the other.
-pub fn bytes_between(start: u16, end: u16) -> usize
+fn bytes_between(start: u16, end: u16) -> usize
     ensures { λ r. ⌜ r ≡ count start end ⌝ }
     ensures { λ r. ⌜ r ≤ 65536 ⌝ }
 {
@@ -40,20 +39,20 @@ pub fn bytes_between(start: u16, end: u16) -> usize
     past - first
 }
 
-// Where the n bytes of a transfer begin, after the command and X pad bytes, X being start mod 32.
-pub fn body_place(start: u16) -> usize
-    ensures { λ r. ⌜ r ≡ bodyPlace start ⌝ }
+// The transfer from one address to another, of either memory: X is start mod 32.
+fn laid_out(start: u16, end: u16) -> Transfer
+    ensures { λ r. ⌜ r ≡ Transfer.Of (padding start) (count start end) ⌝ }
 {
-    COMMAND_SIZE + ((start % 32) as usize)
+    Transfer::Of((start % 32) as u8, bytes_between(start, end) as u32)
 }
 
-// The addresses that a program transfer carries bytes for; no other command is one.
+// How a program transfer is laid out; no other command is one.
 pub fn transfer_of(command: Command) -> Transfer
     ensures { λ r. ⌜ r ≡ transferOf command ⌝ }
 {
     match command {
-        Command::ProgramFlash(start, end) => Transfer::Of(start.0, end.0),
-        Command::ProgramEeprom(start, end) => Transfer::Of(start.0, end.0),
+        Command::ProgramFlash(start, end) => laid_out(start.0, end.0),
+        Command::ProgramEeprom(start, end) => laid_out(start.0, end.0),
         _ => Transfer::NoTransfer,
     }
 }
@@ -63,8 +62,10 @@ pub fn wrong_length(command: Command, n: usize) -> bool
     ensures { λ r. ⌜ r ≡ wrongLength command n ⌝ }
 {
     match transfer_of(command) {
-        Transfer::Of(start, end) => n
-            != body_place(start) + bytes_between(start, end) + SUFFIX_SIZE,
+        Transfer::Of(pad, bytes) => {
+            let whole = COMMAND_SIZE + (pad as usize) + (bytes as usize) + SUFFIX_SIZE;
+            n != whole
+        }
         Transfer::NoTransfer => false,
     }
 }

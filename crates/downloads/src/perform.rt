@@ -1,10 +1,8 @@
 // What an accepted command does.
 ghost use mathlib.Core.Path.{_≡_};
-ghost use mathlib.Core.Bool.{true};
-ghost use Prim.Native.Nat.{_≤_};
-ghost use lib.ListN.{length};
+ghost use mathlib.Core.Bool.{true, false};
 ghost use Rattle.config.specs.Config.{readable, configByte};
-ghost use Rattle.command.specs.Transfer.{suffixPlace, bodyOf};
+ghost use Rattle.command.specs.Transfer.{transferOf, transferBody, badLength};
 ghost use Rattle.rules.specs.Session.{idle};
 ghost use Rattle.blank.specs.Blank.{usedIn};
 ghost use Rattle.rules.specs.Result.{board as boardOf, answer};
@@ -66,13 +64,14 @@ fn byte_of(config: Config, index: u8) -> u8
     }
 }
 
-// The n bytes of a program transfer, of either memory.
-fn body(sent: &[u8], start: u16, end: u16) -> &[u8]
-    requires { ⌜ suffixPlace start end ≤ length (now sent) ⌝ }
-    ensures { λ r. ⌜ now r ≡ bodyOf start end (now (sent .entry)) ⌝ }
+// The n bytes of a program transfer, of either memory; none of any other command.
+fn body(command: Command, sent: &[u8]) -> &[u8]
+    requires { ⌜ badLength command (now sent) ≡ false ⌝ }
+    ensures { λ r. ⌜ now r ≡ transferBody (transferOf command) (now (sent .entry)) ⌝ }
 {
-    let from = command::body_place(start);
-    let to = from + command::bytes_between(start, end);
+    let parts = command::parts_of(command, sent.len());
+    let from = parts.body;
+    let to = parts.suffix;
     &sent[from..to]
 }
 
@@ -101,11 +100,12 @@ pub(crate) fn perform(
 {
     match command {
         Command::ProgramFlash(start, end) => {
-            let bytes = body(sent, start.0, end.0);
+            let bytes = body(command, sent);
             stores(config, memory::program_flash(start, end, bytes, flash))
         }
         Command::ProgramEeprom(start, end) => {
-            let bytes = body(sent, start.0, end.0);
+            let bytes = body(command, sent);
+            // Its answer is not asked for: a transfer that came here can be programmed.
             memory::program_eeprom(start, end, bytes, eeprom);
             leaves(config, Pending::Nothing)
         }

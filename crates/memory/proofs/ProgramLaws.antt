@@ -12,7 +12,7 @@ use Rattle.words.specs.Words.{count, overlay, Programmed}
 use Rattle.words.proofs.WordsLaws.{overlay-programmed}
 use Rattle.memory.specs.Memory.{FlashAddress, flashSize, flashPages, eepromSize, pageSize, mostFlash}
 use Rattle.memory.specs.Pages.{storeAll, programStores, pagesMet}
-use Rattle.memory.specs.Program.{programmable, memoryAfter, flashStores, Programs, ProgramApart, storable, bytesStores}
+use Rattle.memory.specs.Program.{programmable, memoryAfter, flashStores, ProgrammedOrKept, AnySizeProgrammed, BothProgrammed, storable, bytesStores}
 use Rattle.memory.proofs.PagesLaws.{storeAll-programStores, length-programStores}
 
 pub record Fit (size a e : ℕ) (d m : List ℕ) : Type 0 where
@@ -55,15 +55,6 @@ module _ (size a e : ℕ) (d m : List ℕ) where
   unfolding memoryAfter
   memoryAfter-fit f = rw (fit size a e d m f)
 
-  -- the shared fact
-  pub memoryAfter-programs : Programs size a e d m (memoryAfter size a e d m)
-  memoryAfter-programs = record {
-    right = λ t.
-        let f = programmable-fit size a e d m t in
-        subst (Programmed a d m) (sym (memoryAfter-fit f)) (overlay-programmed a d m (omega (arith, f)));
-    wrong = memoryAfter-not;
-  }
-
 module _ (a e : FlashAddress) (d m : List ℕ) where
   pub flashStores-not : programmable flashSize (a .0) (e .0) d m ≡ false → flashStores a e d m ≡ []
   unfolding flashStores
@@ -86,11 +77,19 @@ module _ (a e : FlashAddress) (d m : List ℕ) where
           ∙ storeAll-programStores (a .0) (e .0) d m flashPages (f .right-size) (f .forward) inside (f .right-count)
           ∙ sym (memoryAfter-fit flashSize (a .0) (e .0) d m f)
 
-pub program-apart : ProgramApart
-program-apart = record {
+pub any-size-programmed : AnySizeProgrammed
+any-size-programmed size a e d m = record {
+  programmed = λ t.
+      let f = programmable-fit size a e d m t in
+      subst (Programmed a d m) (sym (memoryAfter-fit size a e d m f)) (overlay-programmed a d m (omega (arith, f)));
+  kept = memoryAfter-not size a e d m;
+}
+
+pub both-programmed : BothProgrammed
+both-programmed = record {
   flash = λ a e d m.
-      subst (Programs flashSize (a .0) (e .0) d m) (sym (storeAll-flashStores a e d m)) (memoryAfter-programs flashSize (a .0) (e .0) d m);
-  eeprom = λ a e d m. memoryAfter-programs eepromSize (a .0) (e .0) d m;
+      subst (ProgrammedOrKept flashSize (a .0) (e .0) d m) (sym (storeAll-flashStores a e d m)) (any-size-programmed flashSize (a .0) (e .0) d m);
+  eeprom = λ a e d m. any-size-programmed eepromSize (a .0) (e .0) d m;
 }
 
 -- some bytes that don't pass the memory's end, and a memory of whole pages that isn't too long

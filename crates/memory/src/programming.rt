@@ -1,5 +1,5 @@
-// Programming a range of flash, and a range of EEPROM: two operations, each over its own addresses and lent its own memory alone. And
-// bytes into the flash of any board.
+// Programming a range of flash, and a range of EEPROM: two operations, each over its own addresses and lent its own memory alone; and
+// storing bytes into the flash of any board.
 ghost use mathlib.Core.Path.{_≡_};
 ghost use Prim.Native.Nat.{_+_, _-_, _*_, _%_, _≤_, _<_, min};
 ghost use lib.ListN.{length, take, drop};
@@ -117,8 +117,8 @@ fn is_programmable(size: usize, first: usize, last: usize, bytes: &[u8], memory:
     bytes.len() == last + 1 - first
 }
 
-// Programs a range of flash, and answers how many pages were stored: 0, with nothing programmed, where the flash has not its size,
-// the range is backward or outside, or the bytes are not as many as the range has.
+// Programs a range of flash, and answers how many pages were stored. Where the flash has not its size, the range is backward or outside,
+// or the bytes are not as many as the range has, nothing is programmed and the answer is 0.
 pub fn program_flash(
     start: FlashAddress,
     end: FlashAddress,
@@ -134,8 +134,8 @@ pub fn program_flash(
     program_pages(flash, start, bytes)
 }
 
-// Programs a range of EEPROM, and answers whether it did: not, with nothing programmed, where the EEPROM has not its size, the range
-// is backward or outside, or the bytes are not as many as the range has.
+// Programs a range of EEPROM, and answers whether it did. Where the EEPROM has not its size, the range is backward or outside, or the
+// bytes are not as many as the range has, nothing is programmed and the answer is false.
 pub fn program_eeprom(
     start: EepromAddress,
     end: EepromAddress,

@@ -117,9 +117,9 @@ numberAfter (Refused n) lent new = lent
 -- ---- a command: its kind, then its numbers
 
 -- a read of flash is kind 2 and one of EEPROM kind 3, with start and end
-abbrev pub packReading : Range → ℕ
-packReading (Flash a e) = packed 2 (a .0) (e .0) 0
-packReading (Eeprom a e) = packed 3 (a .0) (e .0) 0
+abbrev pub packReadCommand : Range → ℕ
+packReadCommand (Flash a e) = packed 2 (a .0) (e .0) 0
+packReadCommand (Eeprom a e) = packed 3 (a .0) (e .0) 0
 
 -- the three blocks are kinds 5, 6 and 7
 abbrev pub packBlock : Block → ℕ
@@ -130,7 +130,7 @@ packBlock High = packed 7 0 0 0
 abbrev pub packCommand : Command → ℕ
 packCommand (ProgramFlash a e) = packed 0 (a .0) (e .0) 0
 packCommand (ProgramEeprom a e) = packed 1 (a .0) (e .0) 0
-packCommand (Read r) = packReading r
+packCommand (Read r) = packReadCommand r
 packCommand (BlankCheck a e) = packed 4 (a .0) (e .0) 0
 packCommand (EraseBlock k) = packBlock k
 packCommand EraseChip = packed 8 0 0 0

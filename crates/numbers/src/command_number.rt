@@ -1,6 +1,6 @@
 // A command as a number.
 ghost use mathlib.Core.Path.{_≡_};
-ghost use Rattle.numbers.specs.Layout.{packReading, packBlock, packCommand, commandFor, commandOf};
+ghost use Rattle.numbers.specs.Layout.{packReadCommand, packBlock, packCommand, commandFor, commandOf};
 use crate::packing::first_word;
 use crate::packing::low_byte;
 use crate::packing::pack_words;
@@ -12,8 +12,8 @@ use memory::EepromAddress;
 use memory::FlashAddress;
 use memory::Range;
 
-fn pack_reading(range: Range) -> u64
-    ensures { λ r. ⌜ r ≡ packReading range ⌝ }
+fn pack_read_command(range: Range) -> u64
+    ensures { λ r. ⌜ r ≡ packReadCommand range ⌝ }
 {
     match range {
         Range::Flash(start, end) => pack_words(2, start.0, end.0, 0),
@@ -38,7 +38,7 @@ pub fn pack_command(command: Command) -> u64
     match command {
         Command::ProgramFlash(start, end) => pack_words(0, start.0, end.0, 0),
         Command::ProgramEeprom(start, end) => pack_words(1, start.0, end.0, 0),
-        Command::Read(range) => pack_reading(range),
+        Command::Read(range) => pack_read_command(range),
         Command::BlankCheck(start, end) => pack_words(4, start.0, end.0, 0),
         Command::EraseBlock(block) => pack_block(block),
         Command::EraseChip => pack_words(8, 0, 0, 0),

@@ -25,7 +25,7 @@ use Rattle.memory.proofs.PagesLaws.{programStores-programmed, length-programSto
 use Rattle.blank.proofs.BlankLaws.{usedIn-whole}
 use Rattle.command.specs.Form.{form}
 use Rattle.command.specs.Address.{badEnds, mostBytes}
-use Rattle.command.specs.Transfer.{bodyPlace, bodyOf, transferLength}
+use Rattle.command.specs.Transfer.{padding, bodyPlace, bodyOf, transferLength}
 use Rattle.command.specs.declared.command.Command.{Command}
 use Rattle.command.specs.declared.command.Command.the-variants.{ProgramFlash, BlankCheck, EraseChip}
 use Rattle.rules.specs.Session.{Session, session, idle, BlankReport}
@@ -54,25 +54,27 @@ answers-by {l} {head} {least} {most} {o} p q f = record {
 
 -- a command to program that passes
 obey-program : (b : Board) (a e : FlashAddress) (d : List ℕ) → level (b .config) ≡ L0 → badEnds flashSize (a .0) (e .0) ≡ false
-    → length d ≡ transferLength (a .0) (e .0) → obey b (ProgramFlash a e) d ≡ accept (ProgramFlash a e) (programFlash b a e d)
+    → length d ≡ transferLength (padding (a .0)) (count (a .0) (e .0)) → obey b (ProgramFlash a e) d ≡ accept (ProgramFlash a e) (programFlash b a e d)
 unfolding obey perform
-obey-program b a e d l g h = rw (l, g, h, eq-eqb (transferLength (a .0) (e .0)) (transferLength (a .0) (e .0)) refl)
+obey-program b a e d l g h =
+    let whole : ℕ = transferLength (padding (a .0)) (count (a .0) (e .0)) in
+    rw (l, g, h, eq-eqb whole whole refl)
 
 -- the bytes of a transfer lie where its layout says
 module _ (a e : ℕ) (filler pad new suffix : List ℕ) (hf : length filler ≡ 26) (hn : length new ≡ count a e) (hs : length suffix ≡ 16)
-    (ht : length (transfer a e filler pad new suffix) ≡ transferLength a e) where
+    (ht : length (transfer a e filler pad new suffix) ≡ transferLength (padding a) (count a e)) where
   front : List ℕ
   front = programHead a e ++ filler ++ pad
 
-  length-front : length front ≡ bodyPlace a
+  length-front : length front ≡ bodyPlace (padding a)
   unfolding front
   length-front = simp length-append (omega (arith, simp length-append at ht))
 
   transfer-body : bodyOf a e (transfer a e filler pad new suffix) ≡ new
   unfolding front
   transfer-body =
-      ap (λ x. take (count a e) (drop (bodyPlace a) x)) (append-assoc front new suffix)
-      ∙ ap (take (count a e)) (drop-at front (new ++ suffix) (bodyPlace a) length-front)
+      ap (λ x. take (count a e) (drop (bodyPlace (padding a)) x)) (append-assoc front new suffix)
+      ∙ ap (take (count a e)) (drop-at front (new ++ suffix) (bodyPlace (padding a)) length-front)
       ∙ take-at new suffix (count a e) hn
 
   transfer-form : form (transfer a e filler pad new suffix) ≡ some (ProgramFlash (flashAddress a) (flashAddress e))
@@ -83,7 +85,7 @@ module _ (a e : ℕ) (filler pad new suffix : List ℕ) (hf : length filler ≡ 
       let we : e / 256 * 256 + e % 256 ≡ e = omega arith in
       rw (le-leb 6 (length (transfer a e filler pad new suffix)) six, wa, we)
 
-programs-by : (a e n k : ℕ) → a ≤ e → e < flashSize → count a e ≤ mostBytes → n ≡ transferLength a e → k ≡ pagesMet a e → Programs a e n k
+programs-by : (a e n k : ℕ) → a ≤ e → e < flashSize → count a e ≤ mostBytes → n ≡ transferLength (padding a) (count a e) → k ≡ pagesMet a e → Programs a e n k
 programs-by a e n k forward inside short hn hk = record {
   programs = λ b r u filler pad new suffix lf ln ls lt.
       let to-flash : Command = ProgramFlash (flashAddress a) (flashAddress e) in

@@ -9,3 +9,4 @@ pub mod EffectsHold
 pub mod Ready
 pub mod BenchCasesHold
 pub mod LevelTwoHolds
+pub mod JudgedHolds

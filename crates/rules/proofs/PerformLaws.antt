@@ -7,6 +7,7 @@ use mathlib.Core.Option.{Option, none, some}
 use Prim.Native.Nat.{ℕ}
 use lib.ListN.{length}
 use borrow.Author.Tests.{eq-eqb}
+use Rattle.words.specs.Words.{count}
 use Rattle.memory.specs.Memory.{flashSize, eepromSize, memorySize}
 use Rattle.memory.specs.Read.{selected}
 use Rattle.memory.specs.Pages.{Store, storeAll, blockStores, chipStores}
@@ -21,7 +22,7 @@ use Rattle.memory.proofs.ProgramLaws.{Fit, memoryAfter-fit, flashStores-fit}
 use Rattle.config.specs.Config.{erasedConfig}
 use Rattle.config.specs.declared.config.Config.{Config}
 use Rattle.command.specs.Address.{badEnds}
-use Rattle.command.specs.Transfer.{bodyOf, wrongTransfer}
+use Rattle.command.specs.Transfer.{padding, bodyOf, wrongTransfer}
 use Rattle.command.specs.declared.transfer.Transfer.the-variants.{Of}
 use Rattle.command.specs.declared.command.Command.{Command}
 use Rattle.command.specs.declared.command.Command.the-variants.{ProgramFlash, ProgramEeprom, EraseBlock, EraseChip}
@@ -56,7 +57,7 @@ selected-sized (Flash a e) f m s = s .flash-size
 selected-sized (Eeprom a e) f m s = s .eeprom-size
 
 -- a transfer whose addresses and length are right can be programmed, into a memory of any size
-pub transfer-fit : (size a e : ℕ) (d m : List ℕ) → length m ≡ size → badEnds size a e ≡ false → wrongTransfer (Of a e) (length d) ≡ false
+pub transfer-fit : (size a e : ℕ) (d m : List ℕ) → length m ≡ size → badEnds size a e ≡ false → wrongTransfer (Of (padding a) (count a e)) (length d) ≡ false
     → Fit size a e (bodyOf a e d) m
 transfer-fit size a e d m h u w =
     let g = badEnds-good size a e u in

@@ -10,3 +10,4 @@ pub mod Answered
 pub mod BenchCases
 pub mod Effects
 pub mod LevelTwo
+pub mod Judged

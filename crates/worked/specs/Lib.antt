@@ -1,3 +1,3 @@
--- What the examples expect.
+-- What the examples use and expect.
 pub mod OddBoard
 pub mod Apart

@@ -1,4 +1,5 @@
-// P4 of 02: each memory is programmed by an operation of its own, over its own addresses. Here with two heights across the edge of a page.
+// P4 of 02: each memory is programmed by an operation of its own, over its own addresses. Here with two bytes from 007Fh on, across the
+// edge of a page of flash.
 ghost use mathlib.Core.Path.{_≡_};
 ghost use lib.ListN.{length};
 ghost use Rattle.memory.specs.Memory.{flashAddress, eepromSize};
@@ -35,7 +36,7 @@ fn own_memory_lent() {
     check::expect(into_eeprom(&mut eeprom));
 }
 
-// Each lent the other memory: nothing is programmed, and each says so.
+// Each lent the other memory: each says that it programmed nothing.
 fn other_memory_lent() {
     let mut flash = [0xFF; FLASH_SIZE];
     let mut eeprom = [0xFF; EEPROM_SIZE];

@@ -17,7 +17,7 @@ fn to_flash(start: u16, end: u16) -> Command
 
 // X for 00AFh is 15; the transfer of one byte there is 64 bytes, and not 65.
 fn padding() {
-    check::expect(command::body_place(0x00AF) == 32 + 15);
+    check::expect(command::parts_of(to_flash(0x00AF, 0x00AF), 64).body == 32 + 15);
     check::expect(!command::wrong_length(to_flash(0x00AF, 0x00AF), 64));
     check::expect(command::wrong_length(to_flash(0x00AF, 0x00AF), 65));
 }

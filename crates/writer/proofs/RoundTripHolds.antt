@@ -68,9 +68,9 @@ was-written k d s room n false c q =
 
 -- the command k carries bytes for the addresses a to e, has six before its filler, and is checked for the lengths of its parts
 record Carries (k : Command) (a e : ℕ) : Type 0 where
-  transfer : transferOf k ≡ Of a e
+  transfer : transferOf k ≡ Of (padding a) (count a e)
   six : length (headBytes k) ≡ 6
-  checked : (d s : ℕ) → badWrite k d s ≡ badParts (count a e) d s
+  checked : (d s : ℕ) → badWrite k d s ≡ badParts (Of (padding a) (count a e)) d s
 
 carries-flash : (a e : FlashAddress) → Carries (ProgramFlash a e) (a .0) (e .0)
 unfolding headBytes
@@ -84,7 +84,7 @@ module _ (k : Command) (a e : ℕ) (t : Carries k a e) (d s : List ℕ) (ld : le
   front : List ℕ
   front = headBytes k ++ zeros (fillerSize + padding a)
 
-  length-front : length front ≡ bodyPlace a
+  length-front : length front ≡ bodyPlace (padding a)
   unfolding front
   length-front = simp (length-append, length-replicate) (omega (arith, t .six))
 
@@ -92,20 +92,20 @@ module _ (k : Command) (a e : ℕ) (t : Carries k a e) (d s : List ℕ) (ld : le
   unfolding front commandBytes
   bytes-parts = rw (t .transfer, take-length d, take-length s)
 
-  length-bytes : length (commandBytes k d s) ≡ transferLength a e
+  length-bytes : length (commandBytes k d s) ≡ transferLength (padding a) (count a e)
   length-bytes = ap length bytes-parts ∙ simp length-append (omega (arith, length-front))
 
-  length-front-body : length (front ++ d) ≡ suffixPlace a e
+  length-front-body : length (front ++ d) ≡ suffixPlace (padding a) (count a e)
   length-front-body = simp length-append (omega (arith, length-front))
 
   body-back : bodyOf a e (commandBytes k d s) ≡ d
   body-back =
-      ap (λ x. take (count a e) (drop (bodyPlace a) x)) (bytes-parts ∙ append-assoc front d s)
-      ∙ ap (take (count a e)) (drop-at front (d ++ s) (bodyPlace a) length-front)
+      ap (λ x. take (count a e) (drop (bodyPlace (padding a)) x)) (bytes-parts ∙ append-assoc front d s)
+      ∙ ap (take (count a e)) (drop-at front (d ++ s) (bodyPlace (padding a)) length-front)
       ∙ take-at d s (count a e) ld
 
   suffix-back : suffixOf a e (commandBytes k d s) ≡ s
-  suffix-back = ap (drop (suffixPlace a e)) bytes-parts ∙ drop-at (front ++ d) s (suffixPlace a e) length-front-body
+  suffix-back = ap (drop (suffixPlace (padding a) (count a e))) bytes-parts ∙ drop-at (front ++ d) s (suffixPlace (padding a) (count a e)) length-front-body
 
 -- ---- reading what was written
 
@@ -152,8 +152,8 @@ reads-plain k d s p a w q l e = record {
 reads-program : (k : Command) (a e : ℕ) → Carries k a e → (d s : List ℕ) → badAddress k ≡ false → badWrite k (length d) (length s) ≡ false
     → ReadsAs (commandBytes k d s) k d s
 reads-program k a e t d s u w =
-    let l = right-lengths (count a e) (length d) (length s) (sym (t .checked (length d) (length s)) ∙ w) in
-    let n : suffixPlace a e - bodyPlace a ≡ count a e = omega arith in
+    let l = right-lengths (padding a) (count a e) (length d) (length s) (sym (t .checked (length d) (length s)) ∙ w) in
+    let n : suffixPlace (padding a) (count a e) - bodyPlace (padding a) ≡ count a e = omega arith in
     record {
       command = taken (commandBytes k d s) k (record {
         formed = form-back k d s w;
@@ -253,20 +253,20 @@ module _ (p : List ℕ) (each : Bytes p) where
   program-back : (k : Command) (a e : ℕ) → Carries k a e → Formed p k → Passed p k → ZeroPadded a p → Back k
   unfolding commandBytes
   program-back k a e c f q z =
-      let total : length p ≡ transferLength a e = eqb-true _ _ (not-false _ (rw (c .transfer) at (q .length-right))) in
-      let n : suffixPlace a e - bodyPlace a ≡ count a e = omega arith in
+      let total : length p ≡ transferLength (padding a) (count a e) = eqb-true _ _ (not-false _ (rw (c .transfer) at (q .length-right))) in
+      let n : suffixPlace (padding a) (count a e) - bodyPlace (padding a) ≡ count a e = omega arith in
       let fill : ℕ = fillerSize + padding a in
-      let d : List ℕ = take (count a e) (drop (bodyPlace a) p) in
-      let t : List ℕ = drop (suffixPlace a e) p in
-      let ld : length d ≡ count a e = length-take-le (count a e) (drop (bodyPlace a) p) (simp length-drop (omega arith)) in
+      let d : List ℕ = take (count a e) (drop (bodyPlace (padding a)) p) in
+      let t : List ℕ = drop (suffixPlace (padding a) (count a e)) p in
+      let ld : length d ≡ count a e = length-take-le (count a e) (drop (bodyPlace (padding a)) p) (simp length-drop (omega arith)) in
       let ls : length t ≡ suffixSize = simp length-drop (omega arith) in
       let filled : take fill (drop 6 p) ≡ zeros fill = spelled fill 6 (omega arith) ∙ zeros-spelled fill 6 (λ j a b. z j a (omega arith)) in
-      let place : 6 + fill ≡ bodyPlace a = omega arith in
+      let place : 6 + fill ≡ bodyPlace (padding a) = omega arith in
       let head : take 6 p ≡ headBytes k = ap (λ i. take i p) (sym (c .six)) ∙ head-back k f in
-      let start : headBytes k ++ zeros fill ≡ take (bodyPlace a) p = rw (← head, ← filled, ← place) (sym (take-add 6 fill p)) in
+      let start : headBytes k ++ zeros fill ≡ take (bodyPlace (padding a)) p = rw (← head, ← filled, ← place) (sym (take-add 6 fill p)) in
       record {
         right = rw (c .checked, c .transfer, n, eq-eqb (length d) (count a e) ld, eq-eqb (length t) suffixSize ls);
-        bytes = rw (c .transfer, n, take-length d, take-length t, start, ← take-add (bodyPlace a) (count a e) p) (take-append-drop (suffixPlace a e) p);
+        bytes = rw (c .transfer, n, take-length d, take-length t, start, ← take-add (bodyPlace (padding a)) (count a e) p) (take-append-drop (suffixPlace (padding a) (count a e)) p);
       }
 
   back : (k : Command) → Formed p k → Passed p k → ZeroFilled k p → Back k

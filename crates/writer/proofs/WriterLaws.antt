@@ -12,6 +12,7 @@ use Rattle.command.specs.declared.command.Command.{Command}
 use Rattle.command.specs.declared.command.Command.the-variants.{ProgramFlash, ProgramEeprom, Read, BlankCheck, EraseBlock, EraseChip, WriteByte, WriteHsb}
 use Rattle.command.specs.declared.command.Command.the-variants.{StartReset, StartAt, ReadVersion, ReadByte, ReadHsb}
 use Rattle.command.specs.Transfer.{suffixSize}
+use Rattle.command.specs.declared.transfer.Transfer.the-variants.{Of}
 use Rattle.words.proofs.WordsLaws.{or-false}
 use Rattle.writer.specs.Writer.{headBytes, headOf, badParts}
 
@@ -40,7 +41,7 @@ pub take-headOf : (k : Command) → take (headOf k .size) (headOf k .bytes) ≡ 
 take-headOf k = take-at (headBytes k) (replicate (6 - length (headBytes k)) 0x00) (length (headBytes k)) refl
 
 -- a body as long as its range, and a suffix of 16 bytes
-pub right-lengths : (n d s : ℕ) → badParts n d s ≡ false → (d ≡ n) × (s ≡ suffixSize)
-right-lengths n d s q =
+pub right-lengths : (x n d s : ℕ) → badParts (Of x n) d s ≡ false → (d ≡ n) × (s ≡ suffixSize)
+right-lengths x n d s q =
     let o = or-false (not (eqb d n)) (not (eqb s suffixSize)) q in
     (eqb-true d n (not-false (eqb d n) (o .0)), eqb-true s suffixSize (not-false (eqb s suffixSize) (o .1)))

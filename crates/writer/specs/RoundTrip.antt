@@ -7,7 +7,7 @@ use Rattle.words.specs.Words.{byteAt}
 use Rattle.command.specs.declared.command.Command.{Command}
 use Rattle.command.specs.declared.command.Command.the-variants.{ProgramFlash, ProgramEeprom, Read, BlankCheck, EraseBlock, EraseChip, WriteByte, WriteHsb}
 use Rattle.command.specs.declared.command.Command.the-variants.{StartReset, StartAt, ReadVersion, ReadByte, ReadHsb}
-use Rattle.command.specs.Transfer.{bodyPlace}
+use Rattle.command.specs.Transfer.{padding, bodyPlace}
 use Rattle.command.specs.declared.reader.Parts.{Parts}
 use Rattle.command.specs.declared.reader.Reading.the-variants.{Taken}
 use Rattle.command.specs.Reader.{partsOf, readCommand}
@@ -49,7 +49,7 @@ ReadsBack = (k : Command) (d s room : List ℕ) (n : ℕ) → writeCommand k d s
 
 -- "with zero filler and pad": a transfer from the address a on, in either memory; no other command has any
 abbrev pub ZeroPadded : ℕ → List ℕ → Type 0
-ZeroPadded a p = (i : ℕ) → 6 ≤ i → i < bodyPlace a → byteAt p i ≡ 0
+ZeroPadded a p = (i : ℕ) → 6 ≤ i → i < bodyPlace (padding a) → byteAt p i ≡ 0
 
 abbrev pub ZeroFilled : Command → List ℕ → Type 0
 ZeroFilled (ProgramFlash a e) p = ZeroPadded (a .0) p

@@ -5,7 +5,7 @@ use mathlib.Core.List.{List, [], _∷_, _++_}
 use Prim.Native.Nat.{ℕ, _+_, _-_, _/_, _%_, _≤_}
 use lib.Dec.{eqb, ltb}
 use lib.ListN.{length, take, replicate}
-use Rattle.words.specs.Words.{if_then_else_, count, overlay}
+use Rattle.words.specs.Words.{if_then_else_, overlay}
 use Rattle.memory.specs.declared.address.Range.{Range}
 use Rattle.memory.specs.declared.address.Range.the-variants.{Flash, Eeprom}
 use Rattle.memory.specs.Memory.{rangeStart, rangeEnd}
@@ -17,7 +17,7 @@ use Rattle.command.specs.Form.{blockCode}
 use Rattle.command.specs.Address.{badAddress}
 use Rattle.command.specs.declared.transfer.Transfer.{Transfer}
 use Rattle.command.specs.declared.transfer.Transfer.the-variants.{Of, NoTransfer}
-use Rattle.command.specs.Transfer.{transferOf, fillerSize, suffixSize, padding}
+use Rattle.command.specs.Transfer.{transferOf, fillerSize, suffixSize}
 pub use Rattle.writer.specs.declared.head.Head.{Head}
 pub use Rattle.writer.specs.declared.write.Tail.{Tail}
 pub use Rattle.writer.specs.declared.write.Written.{Written}
@@ -72,7 +72,7 @@ headBytes ReadHsb = 0x05 ∷ 0x02 ∷ 0x00 ∷ []
 
 -- how many zeros, bytes of the body and bytes of the suffix follow: none but in a program transfer. d and s are as many as given
 abbrev pub transferTail : Transfer → ℕ → ℕ → Tail
-transferTail (Of a e) d s = record { zeros = fillerSize + padding a; body = d; suffix = s }
+transferTail (Of x n) d s = record { zeros = fillerSize + x; body = d; suffix = s }
 transferTail NoTransfer d s = noTail
 
 abbrev pub tailFor : Command → ℕ → ℕ → Tail
@@ -120,14 +120,15 @@ commandBytes k d s =
 
 -- ---- its refusals
 
--- "for program data not as long as the range or suffix not 16 bytes": a range of n bytes, d and s bytes of data and suffix
-abbrev pub badParts : ℕ → ℕ → ℕ → Bool
-badParts n d s = not (eqb d n) || not (eqb s suffixSize)
+-- "for program data not as long as the range or suffix not 16 bytes"; d and s bytes of data and suffix
+abbrev pub badParts : Transfer → ℕ → ℕ → Bool
+badParts (Of x n) d s = not (eqb d n) || not (eqb s suffixSize)
+badParts NoTransfer d s = false
 
--- the same of a program transfer, and "configuration index unknown"
+-- that, of a program transfer; of a byte, "configuration index unknown"
 abbrev pub badWrite : Command → ℕ → ℕ → Bool
-badWrite (ProgramFlash a e) d s = badParts (count (a .0) (e .0)) d s
-badWrite (ProgramEeprom a e) d s = badParts (count (a .0) (e .0)) d s
+badWrite (ProgramFlash a e) d s = badParts (transferOf (ProgramFlash a e)) d s
+badWrite (ProgramEeprom a e) d s = badParts (transferOf (ProgramEeprom a e)) d s
 badWrite (Read r) d s = false
 badWrite (BlankCheck a e) d s = false
 badWrite (EraseBlock k) d s = false

@@ -1,11 +1,12 @@
 // A command, its body and its suffix, written into a lent room.
 ghost use mathlib.Core.Path.{_≡_};
-ghost use Rattle.words.specs.Words.{count};
+ghost use Rattle.command.specs.Transfer.{transferOf};
 ghost use Rattle.writer.specs.Writer.{Put, tailFor, badParts, badWrite, putBytes, putAnswer, putRoom, writeCommand, roomAfter};
 ghost use Rattle.writer.specs.Writer.{writtenNumber, writtenCount};
 use crate::head::Head;
 use crate::head::head_of;
 use command::Command;
+use command::FILLER_SIZE;
 use command::SUFFIX_SIZE;
 use command::Transfer;
 
@@ -51,8 +52,8 @@ fn tail_of(command: Command, body: usize, suffix: usize) -> Tail
     ensures { λ r. ⌜ r ≡ tailFor command body suffix ⌝ }
 {
     match command::transfer_of(command) {
-        Transfer::Of(start, _) => Tail {
-            zeros: command::body_place(start) - 6,
+        Transfer::Of(pad, _) => Tail {
+            zeros: FILLER_SIZE + (pad as usize),
             body,
             suffix,
         },
@@ -64,14 +65,19 @@ fn tail_of(command: Command, body: usize, suffix: usize) -> Tail
     }
 }
 
-// Whether a transfer's body is not as long as its range, or its suffix not 16 bytes.
-fn bad_parts(start: u16, end: u16, body: usize, suffix: usize) -> bool
-    ensures { λ r. ⌜ r ≡ badParts (count start end) body suffix ⌝ }
+// Whether a program transfer's body is not as long as its range, or its suffix not 16 bytes.
+fn bad_parts(command: Command, body: usize, suffix: usize) -> bool
+    ensures { λ r. ⌜ r ≡ badParts (transferOf command) body suffix ⌝ }
 {
-    if body != command::bytes_between(start, end) {
-        return true;
+    match command::transfer_of(command) {
+        Transfer::Of(_, bytes) => {
+            if body != (bytes as usize) {
+                return true;
+            }
+            suffix != SUFFIX_SIZE
+        }
+        Transfer::NoTransfer => false,
     }
-    suffix != SUFFIX_SIZE
 }
 
 // Whether a command's body, suffix or index is wrong.
@@ -79,11 +85,9 @@ fn bad_write(command: Command, body: usize, suffix: usize) -> bool
     ensures { λ r. ⌜ r ≡ badWrite command body suffix ⌝ }
 {
     match command {
-        Command::ProgramFlash(start, end) => bad_parts(start.0, end.0, body, suffix),
-        Command::ProgramEeprom(start, end) => bad_parts(start.0, end.0, body, suffix),
         Command::WriteByte(index, _) => !config::is_writable(index),
         Command::ReadByte(index) => !config::is_readable(index),
-        _ => false,
+        _ => bad_parts(command, body, suffix),
     }
 }
 

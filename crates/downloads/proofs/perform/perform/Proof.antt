@@ -11,7 +11,6 @@ use Rattle.config.specs.declared.config.Config.{Config}
 use Rattle.command.specs.declared.command.Command.{Command}
 use Rattle.command.specs.declared.command.Command.the-variants.{BlankCheck}
 use Rattle.command.proofs.FormLaws.{form-readable}
-use Rattle.command.proofs.TransferLaws.{suffix-inside}
 use Rattle.rules.specs.Session.{idle}
 use Rattle.rules.specs.declared.session.Pending.the-variants.{Nothing, OneByte}
 use Rattle.rules.specs.Result.{answer, board, patchAll}
@@ -37,14 +36,10 @@ acceptable : {k k′ : Command} {d f e : List ℕ} → k ≡ k′ → Acceptable
 acceptable {d = d} {f = f} {e = e} q p = subst (λ k. Acceptable k d f e) q p
 
 body-requires : tie.Need-body-requires
-body-requires c κs =
-    let start = c .before .before .before .before .before .before in
-    suffix-inside _ _ (start .args .sent .now) (acceptable (c .before .command .given .1) (start .pre) .length-right)
+body-requires c κs = acceptable (c .before .command .given .1) (c .before .before .before .before .before .before .pre) .length-right
 
 body-requires-2 : tie.Need-body-requires-2
-body-requires-2 c κs =
-    let start = c .before .before .before .before .before .before in
-    suffix-inside _ _ (start .args .sent .now) (acceptable (c .before .command2 .given .1) (start .pre) .length-right)
+body-requires-2 c κs = acceptable (c .before .command2 .given .1) (c .before .before .before .before .before .before .pre) .length-right
 
 byte-of-requires : tie.Need-byte-of-requires
 byte-of-requires c κs = form-readable _ _ (c .before .before .before .before .before .before .pre .formed ∙ ap some (c .before .command9 .given .1))
@@ -56,8 +51,8 @@ returns c =
     let arm = sent .before .before in
     let given = acceptable (arm .command .given .1) (arm .before .before .before .before .before .pre) in
     rw (arm .command .given .1)
-    (stored _ _ _ _ _ _ _ _ _ _ (program-stores _ _ _ _ _ _ _ given (sent .body .ensures)) (made .program-flash .ensures .0)
-    (made .program-flash .ensures .1) (c .stores .ensures))
+    (stored _ _ _ _ _ _ _ _ _ _ (program-stores _ _ _ _ _ _ _ given (sent .body .ensures)) (made .program-flash .ensures .0) (made .program-flash .ensures .1)
+    (c .stores .ensures))
 
 returns-2 : tie.Need-returns-2
 returns-2 c =
@@ -65,8 +60,7 @@ returns-2 c =
     let sent = made .before .before in
     let arm = sent .before .before in
     let given = acceptable (arm .command2 .given .1) (arm .before .before .before .before .before .pre) in
-    rw (arm .command2 .given .1)
-    (eeprom-programmed _ _ _ _ _ _ _ _ _ given (sent .body2 .ensures) (made .program-eeprom .ensures .1) (c .leaves .ensures))
+    rw (arm .command2 .given .1) (eeprom-programmed _ _ _ _ _ _ _ _ _ given (sent .body2 .ensures) (made .program-eeprom .ensures .1) (c .leaves .ensures))
 
 returns-3 : tie.Need-returns-3
 unfolding perform

@@ -11,7 +11,7 @@ returns-2 : tie.Need-returns-2
 returns-2 c = rw (c .before .before .command2 .given .1) (c .pack-words2 .ensures)
 
 returns-3 : tie.Need-returns-3
-returns-3 c = rw (c .before .before .command3 .given .1) (c .pack-reading .ensures)
+returns-3 c = rw (c .before .before .command3 .given .1) (c .pack-read-command .ensures)
 
 returns-4 : tie.Need-returns-4
 returns-4 c = rw (c .before .before .command4 .given .1) (c .pack-words3 .ensures)

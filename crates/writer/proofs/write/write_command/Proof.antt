@@ -10,6 +10,7 @@ use Rattle.words.specs.Words.{count}
 use Rattle.memory.specs.Memory.{flashSize, eepromSize}
 use Rattle.command.proofs.AddressLaws.{Good, badEnds-good}
 use Rattle.command.specs.Transfer.{fillerSize, padding}
+use Rattle.command.specs.declared.transfer.Transfer.the-variants.{Of}
 use Rattle.command.specs.declared.command.Command.{Command}
 use Rattle.command.specs.declared.command.Command.the-variants.{ProgramFlash, ProgramEeprom, Read, BlankCheck, EraseBlock, EraseChip, WriteByte, WriteHsb}
 use Rattle.command.specs.declared.command.Command.the-variants.{StartReset, StartAt, ReadVersion, ReadByte, ReadHsb}
@@ -34,10 +35,10 @@ no-tail k d s t q = rw q (record {
 
 module _ (d s : List ℕ) where
   -- a transfer, in a memory of any size
-  transfer-tail : (k : Command) (t : Tail) (size a e : ℕ) → Good size a e → badParts (count a e) (length d) (length s) ≡ false
+  transfer-tail : (k : Command) (t : Tail) (size a e : ℕ) → Good size a e → badParts (Of (padding a) (count a e)) (length d) (length s) ≡ false
       → t ≡ record { zeros = fillerSize + padding a; body = length d; suffix = length s } → Put (headOf k) t d s
   transfer-tail k t size a e g w q =
-      let l = right-lengths (count a e) (length d) (length s) w in
+      let l = right-lengths (padding a) (count a e) (length d) (length s) w in
       rw q (record {
         head-fits = length-headBytes-le k;
         head-whole = length-headOf k;
