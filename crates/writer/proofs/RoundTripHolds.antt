@@ -266,7 +266,9 @@ module _ (p : List ℕ) (each : Bytes p) where
       let start : headBytes k ++ zeros fill ≡ take (bodyPlace (padding a)) p = rw (← head, ← filled, ← place) (sym (take-add 6 fill p)) in
       record {
         right = rw (c .checked, c .transfer, n, eq-eqb (length d) (count a e) ld, eq-eqb (length t) suffixSize ls);
-        bytes = rw (c .transfer, n, take-length d, take-length t, start, ← take-add (bodyPlace (padding a)) (count a e) p) (take-append-drop (suffixPlace (padding a) (count a e)) p);
+        bytes =
+            rw (c .transfer, n, take-length d, take-length t, start, ← take-add (bodyPlace (padding a)) (count a e) p)
+            (take-append-drop (suffixPlace (padding a) (count a e)) p);
       }
 
   back : (k : Command) → Formed p k → Passed p k → ZeroFilled k p → Back k
