@@ -9,7 +9,7 @@ use native.Mathlib.Omega.{arith}
 use lib.Dec.{T, ltb, ltb→lt}
 use lib.ListN.{length, take, drop, length-append, length-replicate, length-drop, take-append-drop}
 use lib.Seq.{take-at, drop-at, take-length, drop-length, drop-cons, length-take-le, take-add}
-use borrow.Author.Tests.{eqb-true, eq-eqb, le-leb, le-ltb, not-false}
+use borrow.Author.Tests.{eq-eqb, le-leb, le-ltb, not-false}
 use Rattle.words.specs.Words.{if_then_else_, count, byteAt, highFirst, overlay}
 use Rattle.words.proofs.WordsLaws.{overlay-front}
 use Rattle.config.specs.Config.{readable, writable}
@@ -34,6 +34,7 @@ use Rattle.command.proofs.FormLaws.{Formed, formed, program-flash, program-eepr
 use Rattle.command.proofs.FormLaws.{write-hsb, start-reset, start-at, read-version, read-byte, read-hsb}
 use Rattle.writer.proofs.WriterLaws.{right-lengths}
 use Rattle.command.proofs.ReaderLaws.{Passed, passed, taken}
+use Rattle.command.proofs.TransferLaws.{right-length}
 
 -- ---- what was written
 
@@ -253,7 +254,7 @@ module _ (p : List ℕ) (each : Bytes p) where
   program-back : (k : Command) (a e : ℕ) → Carries k a e → Formed p k → Passed p k → ZeroPadded a p → Back k
   unfolding commandBytes
   program-back k a e c f q z =
-      let total : length p ≡ transferLength (padding a) (count a e) = eqb-true _ _ (not-false _ (rw (c .transfer) at (q .length-right))) in
+      let total = right-length (padding a) (count a e) p (rw (c .transfer) at (q .length-right)) in
       let n : suffixPlace (padding a) (count a e) - bodyPlace (padding a) ≡ count a e = omega arith in
       let fill : ℕ = fillerSize + padding a in
       let d : List ℕ = take (count a e) (drop (bodyPlace (padding a)) p) in
