@@ -4,15 +4,28 @@ use crate::board::{program_eeprom, program_flash, Board};
 use crate::command::{form, program_data, Command};
 use crate::config::{Config, Level, VERSION};
 use crate::session::{
-    Pending, Session, StartKind, STATE_APPLICATION, STATE_DOWNLOAD_IDLE, STATE_DOWNLOAD_SYNC,
-    STATE_ERROR, STATE_IDLE, STATE_MANIFEST_SYNC, STATE_UPLOAD_IDLE, STATUS_ADDRESS,
-    STATUS_NOT_BLANK, STATUS_OK, STATUS_STALL,
+    Pending, Session, StartKind, STATE_APPLICATION, STATE_DOWNLOAD_BUSY, STATE_DOWNLOAD_IDLE,
+    STATE_DOWNLOAD_SYNC, STATE_ERROR, STATE_IDLE, STATE_MANIFEST_SYNC, STATE_UPLOAD_IDLE,
+    STATUS_ADDRESS, STATUS_NOT_BLANK, STATUS_OK, STATUS_STALL,
 };
 
 /// The least reply buffer; no answer is longer.
 pub const REPLY_LEAST: usize = 1_024;
 /// "DNLOAD, wLength over 1,103: stall."
 const DOWNLOAD_MOST: usize = 1_103;
+/// "ten milliseconds a page" (02, P5).
+const PAGE_TIME: u32 = 10;
+
+/// The wrong variant whose second GETSTATUS does not clear the busy count.
+const SECOND_KEEPS: bool = cfg!(feature = "second-getstatus-keeps-busy-count");
+/// The wrong variant that turns the timeout bytes round.
+const HIGH_FIRST: bool = cfg!(feature = "timeout-high-byte-first");
+/// The wrong variant that takes CLRSTATUS for one of those that clear the busy count.
+const CLRSTATUS_CLEARS: bool = cfg!(feature = "clrstatus-clears-busy-count");
+/// The wrong variant that sets the busy count only where a page is stored.
+const BLANK_CHECK_KEEPS: bool = cfg!(feature = "blank-check-keeps-busy-count");
+/// The wrong variant that keeps to 01's states of ABORT.
+const ABORT_STALLS: bool = cfg!(feature = "abort-stalls-in-state-4");
 
 /// bmRequestType of the requests towards the device.
 const TO_DEVICE: u8 = 0x21;
@@ -129,7 +142,8 @@ pub fn step(
     answer(session, config, &setup, data, &mut Board { flash, eeprom }, reply)
 }
 
-/// The request itself. Past refusals 6 and 7, not 10 is "2, 3, 5, 6, 9".
+/// The request itself. Past refusals 6 and 7, not 10 is "2, 3, 5, 6, 9", and by
+/// 02, P5 state 4: there "GETSTATE, GETSTATUS and ABORT work and the rest stalls".
 // In line, so that the setup's fields stay in registers.
 #[inline(always)]
 fn answer(
@@ -146,39 +160,75 @@ fn answer(
         (TO_HOST, GETSTATUS, 0, 0, 6) => get_status(session, reply),
         (TO_HOST, GETSTATE, 0, 0, 1) => get_state(session, reply),
         (TO_DEVICE, CLRSTATUS, 0, 0, 0) if session.state == STATE_ERROR => to_idle(session),
-        (TO_DEVICE, ABORT, 0, 0, 0) if session.state != STATE_ERROR => to_idle(session),
+        (TO_DEVICE, ABORT, 0, 0, 0) if can_abort(session.state) => abort(session),
         _ => stall(session),
     }
 }
 
 /// "state 10, status 0Fh, nothing pending. In state 10 the status there
-/// already stays."
+/// already stays." 02, P5: the busy count "is cleared ... by every stall".
 fn stall(session: &mut Session) -> Answer {
     let status = if session.state == STATE_ERROR { session.status } else { STATUS_STALL };
     session.set(STATE_ERROR, status, Pending::Nothing);
+    session.busy = 0;
     Answer::empty(Outcome::Stall)
 }
 
-/// "A status above is set with state 10 and nothing pending".
+/// "A status above is set with state 10 and nothing pending, and nothing else
+/// moves": the busy count stays.
 fn fail(session: &mut Session, status: u8) -> Answer {
     session.set(STATE_ERROR, status, Pending::Nothing);
     Answer::sent(0)
 }
 
+/// "state 2, status 00h, nothing pending". CLRSTATUS does no more: it is not among
+/// what clears the busy count.
 fn to_idle(session: &mut Session) -> Answer {
     session.set(STATE_IDLE, STATUS_OK, Pending::Nothing);
+    if CLRSTATUS_CLEARS {
+        session.busy = 0;
+    }
     Answer::sent(0)
 }
 
-/// "status, three zero bytes, the state entered, zero".
+/// "ABORT in 2, 3, 5, 6, 9", and by 02, P5 in 4.
+const fn can_abort(state: u8) -> bool {
+    state != STATE_ERROR && !(ABORT_STALLS && state == STATE_DOWNLOAD_BUSY)
+}
+
+/// 02, P5: the busy count "is cleared ... by every ... ABORT".
+fn abort(session: &mut Session) -> Answer {
+    session.busy = 0;
+    to_idle(session)
+}
+
+/// "status, three zero bytes, the state entered, zero". 02, P5: "With a count above
+/// 0, the first GETSTATUS in state 3 reports state 4 with ten milliseconds a page
+/// ..., and moves there; the next one reports 5 with timeout zero."
 fn get_status(session: &mut Session, reply: &mut [u8; REPLY_LEAST]) -> Answer {
-    session.state = match session.state {
-        STATE_DOWNLOAD_SYNC => STATE_DOWNLOAD_IDLE,
-        STATE_MANIFEST_SYNC => STATE_IDLE,
-        state => state,
+    let (state, busy, timeout) = match (session.state, session.busy) {
+        (STATE_DOWNLOAD_SYNC, 0) => (STATE_DOWNLOAD_IDLE, 0, 0),
+        (STATE_DOWNLOAD_SYNC, busy) => (STATE_DOWNLOAD_BUSY, busy, PAGE_TIME * u32::from(busy)),
+        (STATE_DOWNLOAD_BUSY, busy) => {
+            (STATE_DOWNLOAD_IDLE, if SECOND_KEEPS { busy } else { 0 }, 0)
+        }
+        (STATE_MANIFEST_SYNC, busy) => (STATE_IDLE, busy, 0),
+        (state, busy) => (state, busy, 0),
     };
-    reply[..6].copy_from_slice(&[session.status, 0, 0, 0, session.state, 0]);
+    (session.state, session.busy) = (state, busy);
+    let [t0, t1, t2] = timeout_bytes(timeout);
+    reply[..6].copy_from_slice(&[session.status, t0, t1, t2, state, 0]);
     Answer::sent(6)
+}
+
+/// "three timeout bytes, low byte first".
+const fn timeout_bytes(milliseconds: u32) -> [u8; 3] {
+    let [low, middle, high, _] = milliseconds.to_le_bytes();
+    if HIGH_FIRST {
+        [high, middle, low]
+    } else {
+        [low, middle, high]
+    }
 }
 
 fn get_state(session: &Session, reply: &mut [u8; REPLY_LEAST]) -> Answer {
@@ -204,7 +254,9 @@ fn download(session: &mut Session, config: &mut Config, data: &[u8], board: &mut
     }
 }
 
-/// "Order: form, level, address ... and for program at last its whole length."
+/// "Order: form, level, address ... and for program at last its whole length." 02,
+/// P5: "An accepted command, a blank check that gives 05h too, sets" the busy count
+/// "to its page count", which is 256 at most.
 fn obey(session: &mut Session, config: &mut Config, payload: &[u8], board: &mut Board) -> Answer {
     let Some(command) = form(payload) else {
         return stall(session);
@@ -221,6 +273,9 @@ fn obey(session: &mut Session, config: &mut Config, payload: &[u8], board: &mut 
     let pending = to_pend(command, config, board);
     let blank = !matches!(pending, Pending::Blank(_));
     session.set(STATE_DOWNLOAD_SYNC, if blank { STATUS_OK } else { STATUS_NOT_BLANK }, pending);
+    if pages > 0 || !BLANK_CHECK_KEEPS {
+        session.busy = pages as u16;
+    }
     Answer { outcome: Outcome::Done, length: 0, pages }
 }
 

@@ -1,5 +1,5 @@
-//! The paper, sentence by sentence, with P1 and P4 of the change requests. Every
-//! expectation is worked out from their words; none is taken from what the
+//! The paper, sentence by sentence, with P1, P4 and P5 of the change requests.
+//! Every expectation is worked out from their words; none is taken from what the
 //! program printed.
 
 use std::io::Write;
@@ -34,8 +34,13 @@ fn level_2_values() -> impl Iterator<Item = u8> {
     (0..=255).filter(|&ssb| level_of(ssb) == Level::Two)
 }
 
-/// The states that refusals 6 and 7 let through.
-const STATES: [u8; 6] = [2, 3, 5, 6, 9, 10];
+/// The states that refusals 6 and 7 let through; P5: "6 now admits state 4".
+const STATES: [u8; 7] = [2, 3, 4, 5, 6, 9, 10];
+
+/// A record with a busy count of 0.
+fn record(state: u8, status: u8, pending: Pending) -> Session {
+    Session { state, status, pending, busy: 0 }
+}
 
 fn dnload(length: usize) -> [u8; 8] {
     let [low, high] = u16::try_from(length).unwrap().to_le_bytes();
@@ -61,7 +66,7 @@ impl Rig {
     /// A delivered board, all memory FFh, in state 2, with a marked reply.
     fn new() -> Rig {
         Rig {
-            session: Session { state: 2, status: 0, pending: Pending::Nothing },
+            session: record(2, 0, Pending::Nothing),
             config: Config { bytes: [0xFF, 0xFC, 0xFE, 0xFF, 0xFF, 0xFF, 0xFF], hsb: 0xBB },
             flash: vec![0xFF; 32_768],
             eeprom: vec![0xFF; 1_024],
@@ -82,7 +87,12 @@ impl Rig {
     }
 
     fn at(mut self, state: u8, status: u8, pending: Pending) -> Rig {
-        self.session = Session { state, status, pending };
+        self.session = record(state, status, pending);
+        self
+    }
+
+    fn busy(mut self, count: u16) -> Rig {
+        self.session.busy = count;
         self
     }
 
@@ -134,32 +144,79 @@ fn command(before: &Rig, payload: &[u8], paper: impl FnOnce(&mut Rig) -> Said) -
 }
 
 /// "Stall: state 10, status 0Fh, nothing pending. In state 10 the status there already stays."
+/// P5: the count "is cleared ... by every stall".
 fn stalls(rig: &mut Rig) -> Said {
     if rig.session.state != 10 {
         rig.session.status = 0x0F;
     }
     rig.session.state = 10;
     rig.session.pending = Pending::Nothing;
+    rig.session.busy = 0;
     Said(Outcome::Stall, vec![], 0)
 }
 
-/// "A status above is set with state 10 and nothing pending, and nothing else moves."
+/// "A status above is set with state 10 and nothing pending, and nothing else moves":
+/// the busy count neither.
 fn sets(status: u8) -> impl FnOnce(&mut Rig) -> Said {
     move |rig| {
-        rig.session = Session { state: 10, status, pending: Pending::Nothing };
+        rig.session = Session { state: 10, status, pending: Pending::Nothing, ..rig.session };
         Said(Outcome::Done, vec![], 0)
     }
 }
 
-/// "An accepted command sets status 00h, state 3 and what is pending".
+/// "An accepted command sets status 00h, state 3 and what is pending"; P5: and the
+/// busy count "to its page count".
 fn taken(rig: &mut Rig, pending: Pending, pages: usize) -> Said {
-    rig.session = Session { state: 3, status: 0x00, pending };
+    let busy = u16::try_from(pages).unwrap();
+    rig.session = Session { state: 3, status: 0x00, pending, busy };
     Said(Outcome::Done, vec![], pages)
 }
 
-fn idles(rig: &mut Rig) -> Said {
-    rig.session = Session { state: 2, status: 0x00, pending: Pending::Nothing };
+/// "sets 05h with state 3 and the first such address pending"; P5: "a blank check that
+/// gives 05h too, sets it to its page count", which is 0.
+fn finds(rig: &mut Rig, address: u16) -> Said {
+    rig.session = record(3, 0x05, Pending::Blank(address));
     Said(Outcome::Done, vec![], 0)
+}
+
+/// "state 2, status 00h, nothing pending"; CLRSTATUS and UPLOAD are not among what
+/// clears the busy count.
+fn idles(rig: &mut Rig) -> Said {
+    rig.session = Session { state: 2, status: 0x00, pending: Pending::Nothing, ..rig.session };
+    Said(Outcome::Done, vec![], 0)
+}
+
+/// The same for ABORT, which clears it.
+fn aborts(rig: &mut Rig) -> Said {
+    rig.session.busy = 0;
+    idles(rig)
+}
+
+/// "GETSTATUS: status, three zero bytes, the state entered, zero." With a count above 0
+/// in state 3, or in state 4, see `burns`.
+fn reports(entered: u8) -> impl FnOnce(&mut Rig) -> Said {
+    move |rig| {
+        rig.session.state = entered;
+        Said(Outcome::Done, vec![rig.session.status, 0, 0, 0, entered, 0], 0)
+    }
+}
+
+/// The step that P5's cases gain: "the first GETSTATUS in state 3 reports state 4 with
+/// ten milliseconds a page in its three timeout bytes, low byte first, and moves
+/// there; the next one reports 5 with timeout zero", and "that second GETSTATUS"
+/// clears the count.
+#[track_caller]
+fn burns(rig: &Rig, timeout: [u8; 3]) -> Rig {
+    let [low, middle, high] = timeout;
+    let rig = expect(rig, &GETSTATUS, &[], |rig| {
+        rig.session.state = 4;
+        Said(Outcome::Done, vec![rig.session.status, low, middle, high, 4, 0], 0)
+    });
+    expect(&rig, &GETSTATUS, &[], |rig| {
+        rig.session.state = 5;
+        rig.session.busy = 0;
+        Said(Outcome::Done, vec![rig.session.status, 0, 0, 0, 5, 0], 0)
+    })
 }
 
 fn refuses(number: u8) -> impl FnOnce(&mut Rig) -> Said {
@@ -254,10 +311,11 @@ fn case_1_padding() {
 fn cases_2_to_4_one_byte_at_00af() {
     let payload = transfer(0, 0x00AF, 0x00AF, &[0x42], 0xEE);
     assert_eq!(payload.len(), 64);
-    command(&Rig::new(), &payload, |rig| {
+    let rig = command(&Rig::new(), &payload, |rig| {
         rig.flash[0x00AF] = 0x42;
         taken(rig, Pending::Nothing, 1)
     });
+    burns(&rig, [0x0A, 0x00, 0x00]);
     let mut longer = payload.clone();
     longer.push(0);
     command(&Rig::new(), &longer, stalls);
@@ -276,21 +334,26 @@ fn case_6_nine_pages() {
     let bytes = Xorshift(6).bytes(1_024);
     let payload = transfer(0, 0x007F, 0x047E, &bytes, 0x11);
     assert_eq!(payload.len(), 1_103);
-    command(&Rig::filled(), &payload, |rig| {
+    let rig = command(&Rig::filled(), &payload, |rig| {
         rig.flash[0x007F..=0x047E].copy_from_slice(&bytes);
         taken(rig, Pending::Nothing, 9)
     });
+    // 90 milliseconds.
+    burns(&rig, [0x5A, 0x00, 0x00]);
 }
 
 #[test]
 fn case_7_the_last_byte_and_one_beyond() {
     let payload = transfer(0, 0x7FFF, 0x7FFF, &[0x42], 0xEE);
     assert_eq!(payload.len(), 80);
-    command(&Rig::new(), &payload, |rig| {
+    let rig = command(&Rig::new(), &payload, |rig| {
         rig.flash[0x7FFF] = 0x42;
         taken(rig, Pending::Nothing, 1)
     });
-    command(&Rig::new(), &transfer(0, 0x8000, 0x8000, &[0x42], 0), sets(0x08));
+    burns(&rig, [0x0A, 0x00, 0x00]);
+    // The one that is not taken stores no page, and its status is there at once.
+    let rig = command(&Rig::new(), &transfer(0, 0x8000, 0x8000, &[0x42], 0), sets(0x08));
+    expect(&rig, &GETSTATUS, &[], reports(10));
 }
 
 #[test]
@@ -304,10 +367,7 @@ fn case_9_blank_check_at_level_2() {
         let mut rig = Rig::new().ssb(ssb);
         rig.flash[0x1234] = 0x00;
         rig.flash[0x1235] = 0x00;
-        let rig = command(&rig, &ranged(0x03, 0x01, 0x0000, 0x7FFF), |rig| {
-            rig.session = Session { state: 3, status: 0x05, pending: Pending::Blank(0x1234) };
-            Said(Outcome::Done, vec![], 0)
-        });
+        let rig = command(&rig, &ranged(0x03, 0x01, 0x0000, 0x7FFF), |rig| finds(rig, 0x1234));
         let rig = expect(&rig, &GETSTATUS, &[], |rig| {
             rig.session.state = 5;
             Said(Outcome::Done, vec![0x05, 0, 0, 0, 5, 0], 0)
@@ -335,6 +395,8 @@ fn case_11_full_erase_at_level_2() {
             taken(rig, Pending::Nothing, 256)
         });
         assert_eq!(rig.config.level(), Level::Zero);
+        // 2,560 milliseconds, 0A00h.
+        burns(&rig, [0x00, 0x0A, 0x00]);
     }
 }
 
@@ -437,7 +499,7 @@ fn refusal_6_by_state_and_status() {
         let rig = Rig::new().at(state, 0, Pending::Nothing);
         match state {
             0 => drop(expect(&rig, &GETSTATE, &[], refuses(7))),
-            2 | 3 | 5 | 6 | 9 | 10 => {
+            2 | 3 | 4 | 5 | 6 | 9 | 10 => {
                 expect(&rig, &GETSTATE, &[], |_| Said(Outcome::Done, vec![state], 0));
             }
             _ => drop(expect(&rig, &GETSTATE, &[], refuses(6))),
@@ -509,7 +571,7 @@ fn refusal_6_by_what_is_pending() {
         Pending::Start { kind: StartKind::Jump, address: 0x8000 },
         Pending::Start { kind: StartKind::Jump, address: 0xFFFF },
     ];
-    for state in [0, 2, 3, 5, 6, 9, 10] {
+    for state in [0, 2, 3, 4, 5, 6, 9, 10] {
         for pending in unsound {
             let rig = Rig::new().at(state, 0, pending);
             for setup in [GETSTATE, GETSTATUS, CLRSTATUS, ABORT, DETACH, upload(1)] {
@@ -536,9 +598,9 @@ fn refusal_7_for_every_request() {
 fn power_up_is_state_2_and_nothing_pending() {
     for pending in pendings() {
         for state in 0..=255 {
-            let mut session = Session { state, status: 0x77, pending };
+            let mut session = record(state, 0x77, pending);
             power_up(&mut session);
-            assert_eq!(session, Session { state: 2, status: 0, pending: Pending::Nothing });
+            assert_eq!(session, record(2, 0, Pending::Nothing));
         }
     }
 }
@@ -561,7 +623,7 @@ fn power_up_keeps_every_ssb() {
 
 #[test]
 fn getstatus_rows() {
-    for (state, entered) in [(2, 2), (3, 5), (5, 5), (6, 2), (9, 9), (10, 10)] {
+    for (state, entered) in [(2, 2), (3, 5), (4, 5), (5, 5), (6, 2), (9, 9), (10, 10)] {
         for pending in pendings() {
             for status in 0..=0x0F {
                 let rig = Rig::new().at(state, status, pending);
@@ -594,7 +656,7 @@ fn clrstatus_and_abort_and_detach_rows() {
                 expect(&rig, &ABORT, &[], stalls);
             } else {
                 expect(&rig, &CLRSTATUS, &[], stalls);
-                expect(&rig, &ABORT, &[], idles);
+                expect(&rig, &ABORT, &[], aborts);
             }
             expect(&rig, &DETACH, &[], stalls);
             expect(&rig, &[0x21, 0, 0x10, 0, 0, 0, 0, 0], &[], stalls);
@@ -613,7 +675,7 @@ fn a_stall_in_state_10_keeps_the_status() {
             });
             let rig = Rig::new().at(9, status, pending);
             expect(&rig, &DETACH, &[], |rig| {
-                rig.session = Session { state: 10, status: 0x0F, pending: Pending::Nothing };
+                rig.session = record(10, 0x0F, Pending::Nothing);
                 Said(Outcome::Stall, vec![], 0)
             });
         }
@@ -681,13 +743,13 @@ fn dnload_of_nothing_rows() {
             match (state, pending) {
                 (3 | 5, Pending::Start { kind, address }) => {
                     expect(&rig, &dnload(0), &[], |rig| {
-                        rig.session = Session { state: 0, status: 4, pending: Pending::Nothing };
+                        rig.session = record(0, 4, Pending::Nothing);
                         Said(Outcome::Start { kind, address }, vec![], 0)
                     });
                 }
                 (5, _) => {
                     expect(&rig, &dnload(0), &[], |rig| {
-                        rig.session = Session { state: 6, status: 4, pending: Pending::Nothing };
+                        rig.session = record(6, 4, Pending::Nothing);
                         Said(Outcome::Done, vec![], 0)
                     });
                 }
@@ -789,11 +851,11 @@ fn a_memory_read_in_parts() {
         Said(Outcome::Done, vec![0, 0, 0, 0, 5, 0], 0)
     });
     let rig = expect(&rig, &upload(1), &[], |rig| {
-        rig.session = Session { state: 9, status: 0, pending: read(0x7F01, 0x7FFF) };
+        rig.session = record(9, 0, read(0x7F01, 0x7FFF));
         Said(Outcome::Done, vec![rig.flash[0x7F00]], 0)
     });
     let rig = expect(&rig, &upload(254), &[], |rig| {
-        rig.session = Session { state: 9, status: 0, pending: read(0x7FFF, 0x7FFF) };
+        rig.session = record(9, 0, read(0x7FFF, 0x7FFF));
         Said(Outcome::Done, rig.flash[0x7F01..=0x7FFE].to_vec(), 0)
     });
     let rig = expect(&rig, &GETSTATUS, &[], |_| Said(Outcome::Done, vec![0, 0, 0, 0, 9, 0], 0));
@@ -825,7 +887,7 @@ fn a_blank_report_in_two_parts() {
     for state in [5, 9] {
         let rig = Rig::new().at(state, 5, Pending::Blank(0x1234)).ssb(LEVEL_2);
         let rig = expect(&rig, &upload(1), &[], |rig| {
-            rig.session = Session { state: 9, status: 0, pending: Pending::Byte(0x34) };
+            rig.session = record(9, 0, Pending::Byte(0x34));
             Said(Outcome::Done, vec![0x12], 0)
         });
         let rig = expect(&rig, &upload(1), &[], |rig| {
@@ -858,6 +920,635 @@ fn a_refused_write_keeps_its_status_until_clrstatus() {
     }
     rig = command(&rig, &[0x05, 0x00, 0x00], |_| Said(Outcome::Stall, vec![], 0));
     expect(&rig, &CLRSTATUS, &[], idles);
+}
+
+// ------------------------------------------------------- busy is busy (P5)
+
+/// Busy counts that a lent record may hold, with the bytes of "ten milliseconds a page
+/// in its three timeout bytes, low byte first": 0, 10, 90, 1,280 and 2,560.
+const COUNTS: [(u16, [u8; 3]); 5] = [
+    (0, [0x00, 0x00, 0x00]),
+    (1, [0x0A, 0x00, 0x00]),
+    (9, [0x5A, 0x00, 0x00]),
+    (128, [0x00, 0x05, 0x00]),
+    (256, [0x00, 0x0A, 0x00]),
+];
+
+/// 6 "refuses a busy count above 256".
+const REFUSED_COUNTS: [u16; 2] = [257, 65_535];
+
+/// A request, the SSB of the board that it goes to, the records for which the papers
+/// let it work, and what it does then. With every other record it stalls.
+struct Row {
+    setup: [u8; 8],
+    data: Vec<u8>,
+    ssb: u8,
+    works: fn(&Session) -> bool,
+    does: Box<dyn Fn(&mut Rig) -> Said>,
+}
+
+fn row(
+    setup: [u8; 8],
+    works: fn(&Session) -> bool,
+    does: impl Fn(&mut Rig) -> Said + 'static,
+) -> Row {
+    Row { setup, data: vec![], ssb: LEVEL_0, works, does: Box::new(does) }
+}
+
+/// A DNLOAD of 1 to 1,103 bytes: "a command in 2 or 5, else stall".
+fn row_of(ssb: u8, payload: &[u8], does: impl Fn(&mut Rig) -> Said + 'static) -> Row {
+    let works = |record: &Session| matches!(record.state, 2 | 5);
+    Row { data: payload.to_vec(), ssb, ..row(dnload(payload.len()), works, does) }
+}
+
+/// A board with one byte that isn't FFh, at 1234h.
+fn spotted() -> Rig {
+    let mut rig = Rig::new();
+    rig.flash[0x1234] = 0x00;
+    rig
+}
+
+fn always(_: &Session) -> bool {
+    true
+}
+
+fn never(_: &Session) -> bool {
+    false
+}
+
+/// "UPLOAD in 5 or 9, ... something pending that can be sent"; "A pending start can't be
+/// sent".
+fn sendable(record: &Session) -> bool {
+    let nothing = matches!(record.pending, Pending::Nothing | Pending::Start { .. });
+    matches!(record.state, 5 | 9) && !nothing
+}
+
+/// The same at level 2: "nor a memory read".
+fn sendable_at_level_2(record: &Session) -> bool {
+    sendable(record) && !matches!(record.pending, Pending::Read { .. })
+}
+
+/// "wLength 0: in 3 or 5 with a start pending ...; else in 5 ...; else stall."
+fn ends(record: &Session) -> bool {
+    let start = matches!(record.pending, Pending::Start { .. });
+    record.state == 5 || record.state == 3 && start
+}
+
+/// GETSTATUS in every state: "State 3 becomes 5, 6 becomes 2, others stay; so do status
+/// and what is pending", with P5's state 4 on the way where the count is above 0. Of
+/// all of them "that second GETSTATUS" alone clears the count.
+fn asked(rig: &mut Rig) -> Said {
+    let (count, state) = (rig.session.busy, rig.session.state);
+    let (_, burning) = COUNTS.into_iter().find(|&(listed, _)| listed == count).unwrap();
+    let (entered, [low, middle, high], after) = match (state, count) {
+        (3, 0) => (5, [0; 3], 0),
+        (3, _) => (4, burning, count),
+        (4, _) => (5, [0; 3], 0),
+        (6, _) => (2, [0; 3], count),
+        _ => (state, [0; 3], count),
+    };
+    (rig.session.state, rig.session.busy) = (entered, after);
+    Said(Outcome::Done, vec![rig.session.status, low, middle, high, entered, 0], 0)
+}
+
+/// DNLOAD of no byte where it works: "start with its kind and address, state 0, nothing
+/// pending; else in 5 state 6, nothing pending (both keep the status)", and the count.
+fn ended(rig: &mut Rig) -> Said {
+    let (state, outcome) = match rig.session.pending {
+        Pending::Start { kind, address } => (0, Outcome::Start { kind, address }),
+        _ => (6, Outcome::Done),
+    };
+    rig.session = Session { state, pending: Pending::Nothing, ..rig.session };
+    Said(outcome, vec![], 0)
+}
+
+/// UPLOAD where it works: "the smaller of wLength and the rest. Status 00h. If more
+/// remains, state 9 and the rest pending (after the first byte of a blank report: its
+/// low byte, as one byte); else state 2 and nothing." The count is kept.
+fn sends(length: usize) -> impl Fn(&mut Rig) -> Said {
+    move |rig| {
+        let whole = match rig.session.pending {
+            Pending::Read { memory: Memory::Flash, start, end } => {
+                rig.flash[start.into()..=end.into()].to_vec()
+            }
+            Pending::Read { memory: Memory::Eeprom, start, end } => {
+                rig.eeprom[start.into()..=end.into()].to_vec()
+            }
+            Pending::Blank(address) => address.to_be_bytes().to_vec(),
+            Pending::Byte(value) => vec![value],
+            Pending::Nothing | Pending::Start { .. } => panic!("nothing to send"),
+        };
+        let sent = whole[..length.min(whole.len())].to_vec();
+        let (state, pending) = match rig.session.pending {
+            _ if sent.len() == whole.len() => (2, Pending::Nothing),
+            Pending::Read { memory, start, end } => {
+                (9, Pending::Read { memory, start: start + sent.len() as u16, end })
+            }
+            _ => (9, Pending::Byte(whole[1])),
+        };
+        rig.session = Session { state, status: 0x00, pending, ..rig.session };
+        Said(Outcome::Done, sent, 0)
+    }
+}
+
+/// Every request but those that are commands.
+fn rows_of_requests() -> Vec<Row> {
+    let mut rows = vec![
+        row(GETSTATUS, always, asked),
+        row(GETSTATE, always, |rig| Said(Outcome::Done, vec![rig.session.state], 0)),
+        row(CLRSTATUS, |record| record.state == 10, idles),
+        row(ABORT, |record| [2, 3, 4, 5, 6, 9].contains(&record.state), aborts),
+        row(DETACH, never, stalls),
+        row(dnload(0), ends, ended),
+        Row { data: vec![0; 1_104], ..row(dnload(1_104), never, stalls) },
+        row(upload(0), never, stalls),
+    ];
+    for length in [1, 2, 64, 1_024, 0xFFFF] {
+        rows.push(row(upload(length), sendable, sends(length.into())));
+        let at_level_2 = row(upload(length), sendable_at_level_2, sends(length.into()));
+        rows.push(Row { ssb: LEVEL_2, ..at_level_2 });
+    }
+    // "Anything else stalls."
+    for setup in [
+        [0xA1, 3, 0, 0, 0, 0, 5, 0],
+        [0xA1, 3, 1, 0, 0, 0, 6, 0],
+        [0xA1, 5, 0, 0, 1, 0, 1, 0],
+        [0xA1, 6, 0, 0, 0, 0, 0, 0],
+        [0xA1, 2, 0, 0, 1, 0, 1, 0],
+        [0x21, 3, 0, 0, 0, 0, 0, 0],
+        [0x21, 4, 1, 0, 0, 0, 0, 0],
+        [0x21, 6, 0, 0, 1, 0, 0, 0],
+        [0x21, 7, 0, 0, 0, 0, 0, 0],
+        [0x00, 0, 0, 0, 0, 0, 0, 0],
+    ] {
+        rows.push(row(setup, never, stalls));
+    }
+    rows
+}
+
+/// Every command, accepted, answered with a status, and malformed.
+fn rows_of_commands() -> Vec<Row> {
+    let nine = transfer(FLASH, 0x007F, 0x047E, &[0x42; 1_024], 0);
+    let one = transfer(FLASH, 0x00AF, 0x00AF, &[0x42], 0);
+    let to_eeprom = transfer(EEPROM, 0x03FF, 0x03FF, &[0x42], 0);
+    // What is stored, what is pending, how many pages.
+    let nothing = Pending::Nothing;
+    let accepted: [(&[u8], Store, Pending, usize); 17] = [
+        (&one, |rig| rig.flash[0x00AF] = 0x42, nothing, 1),
+        (&nine, |rig| rig.flash[0x007F..=0x047E].fill(0x42), nothing, 9),
+        (&to_eeprom, |rig| rig.eeprom[0x03FF] = 0x42, nothing, 0),
+        (&[0x04, 0x00, 0x00], |rig| rig.flash[..0x2000].fill(0xFF), nothing, 64),
+        (&[0x04, 0x00, 0x20], |rig| rig.flash[0x2000..0x4000].fill(0xFF), nothing, 64),
+        (&[0x04, 0x00, 0x40], |rig| rig.flash[0x4000..].fill(0xFF), nothing, 128),
+        (&[0x04, 0x00, 0xFF], |rig| rig.flash.fill(0xFF), nothing, 256),
+        (&[0x04, 0x01, 0x00, 0x5A], |rig| rig.config.bytes[0] = 0x5A, nothing, 0),
+        (&[0x04, 0x01, 0x05, 0xFE], |rig| rig.config.bytes[5] = 0xFE, nothing, 0),
+        (&[0x04, 0x02, 0x00, 0x4F], |rig| rig.config.hsb = 0x4B, nothing, 0),
+        (&[0x03, 0x00, 0x12, 0x00, 0x12, 0xFF], |_| (), flash_read(0x1200, 0x12FF), 0),
+        (&[0x03, 0x02, 0x00, 0x00, 0x03, 0xFF], |_| (), eeprom_read(0x0000, 0x03FF), 0),
+        (&[0x03, 0x01, 0x12, 0x35, 0x7F, 0xFF], |_| (), nothing, 0),
+        (
+            &[0x04, 0x03, 0x01, 0x12, 0x34],
+            |_| (),
+            Pending::Start { kind: StartKind::Jump, address: 0x1234 },
+            0,
+        ),
+        (&[0x05, 0x00, 0x00], |_| (), Pending::Byte(0x12), 0),
+        (&[0x05, 0x01, 0x30], |_| (), Pending::Byte(0x58), 0),
+        (&[0x05, 0x02, 0x00], |_| (), Pending::Byte(0xBB), 0),
+    ];
+    let mut rows: Vec<Row> = accepted
+        .into_iter()
+        .map(|(payload, store, pending, pages)| {
+            row_of(LEVEL_0, payload, move |rig| {
+                store(rig);
+                taken(rig, pending, pages)
+            })
+        })
+        .collect();
+    // "a blank check that gives 05h too".
+    for ssb in [LEVEL_0, LEVEL_1, LEVEL_2] {
+        rows.push(row_of(ssb, &ranged(0x03, 0x01, 0, 0x7FFF), |rig| finds(rig, 0x1234)));
+    }
+    // At level 2 the erase of the full chip is all that stores a page.
+    rows.push(row_of(LEVEL_2, &[0x04, 0x00, 0xFF], |rig| {
+        rig.flash.fill(0xFF);
+        rig.config.bytes[5] = 0xFF;
+        taken(rig, Pending::Nothing, 256)
+    }));
+    for (ssb, payload, status) in [
+        (LEVEL_1, &one[..], 0x03),
+        (LEVEL_1, &[0x04, 0x00, 0x40], 0x03),
+        (LEVEL_2, &[0x04, 0x02, 0x00, 0x00], 0x03),
+        (LEVEL_0, &[0x04, 0x01, 0x05, 0x00], 0x03),
+        (LEVEL_0, &[0x04, 0x03, 0x01, 0x80, 0x00], 0x08),
+        (LEVEL_0, &[0x01, 0x00, 0x00, 0x00, 0x04, 0x00], 0x08),
+        (LEVEL_0, &[0x03, 0x01, 0x00, 0x01, 0x00, 0x00], 0x08),
+        (LEVEL_2, &[0x03, 0x00, 0x00, 0x00, 0x00, 0x00], 0x0B),
+        (LEVEL_2, &[0x05, 0x02, 0x00], 0x0B),
+    ] {
+        rows.push(row_of(ssb, payload, move |rig| sets(status)(rig)));
+    }
+    for payload in [&one[..63], &[0x01, 0x00], &[0x04, 0x00, 0x10], &[0x77]] {
+        rows.push(row_of(LEVEL_0, payload, stalls));
+    }
+    rows
+}
+
+fn all_rows() -> Vec<Row> {
+    [rows_of_requests(), rows_of_commands()].into_iter().flatten().collect()
+}
+
+/// Each request with each state, each kind of pending and each count: the answer, the
+/// state, and whether the count is set, kept or cleared. "The count is cleared by that
+/// second GETSTATUS and by every stall, ABORT and power-up", and what is not named
+/// keeps it.
+#[test]
+fn every_request_with_every_lent_count() {
+    for row in all_rows() {
+        let board = spotted().ssb(row.ssb);
+        for state in STATES {
+            for pending in pendings() {
+                for (count, _) in COUNTS {
+                    for status in [0x00, 0x05, 0x0F] {
+                        let rig = board.clone().at(state, status, pending).busy(count);
+                        if (row.works)(&rig.session) {
+                            expect(&rig, &row.setup, &row.data, |rig| (row.does)(rig));
+                        } else {
+                            expect(&rig, &row.setup, &row.data, stalls);
+                        }
+                    }
+                }
+            }
+        }
+    }
+}
+
+/// "6 now admits state 4 and refuses a busy count above 256", in state 0 too, where 7
+/// is only for a record that 6 admits.
+#[test]
+fn every_request_with_a_count_above_256() {
+    for row in all_rows() {
+        let board = spotted().ssb(row.ssb);
+        for state in [0, 2, 3, 4, 5, 6, 9, 10] {
+            for pending in pendings() {
+                for count in REFUSED_COUNTS {
+                    let rig = board.clone().at(state, 0x00, pending).busy(count);
+                    expect(&rig, &row.setup, &row.data, refuses(6));
+                }
+            }
+        }
+        for (count, _) in COUNTS {
+            let rig = board.clone().at(0, 0x00, Pending::Nothing).busy(count);
+            expect(&rig, &row.setup, &row.data, refuses(7));
+        }
+    }
+}
+
+/// The count in the order of the refusals: after 5, as one cause of 6, before 7.
+#[test]
+fn the_count_among_the_refusals() {
+    for count in COUNTS.map(|(count, _)| count).into_iter().chain(REFUSED_COUNTS) {
+        for state in 0..=255 {
+            let rig = Rig::new().at(state, 0, Pending::Nothing).busy(count);
+            match (state, count) {
+                (2..=6 | 9 | 10, 0..=256) => {
+                    expect(&rig, &GETSTATE, &[], |_| Said(Outcome::Done, vec![state], 0));
+                }
+                (0, 0..=256) => drop(expect(&rig, &GETSTATE, &[], refuses(7))),
+                _ => drop(expect(&rig, &GETSTATE, &[], refuses(6))),
+            }
+        }
+    }
+    for count in REFUSED_COUNTS {
+        for state in [0, 2, 3, 4, 10] {
+            for first in 1..=5 {
+                let (mut rig, setup, data) = faulty(&[first]);
+                rig.session.state = state;
+                expect(&rig.busy(count), &setup, &data, refuses(first));
+            }
+            let rig = Rig::new().at(state, 0x10, Pending::Blank(0x8000)).busy(count);
+            expect(&rig, &GETSTATE, &[], refuses(6));
+        }
+    }
+}
+
+/// The six bytes of both, for each number of pages that a command may have.
+#[test]
+fn both_getstatus_byte_by_byte() {
+    for (count, timeout) in [
+        (1, [0x0A, 0x00, 0x00]),
+        (2, [0x14, 0x00, 0x00]),
+        (3, [0x1E, 0x00, 0x00]),
+        (4, [0x28, 0x00, 0x00]),
+        (5, [0x32, 0x00, 0x00]),
+        (6, [0x3C, 0x00, 0x00]),
+        (7, [0x46, 0x00, 0x00]),
+        (8, [0x50, 0x00, 0x00]),
+        (9, [0x5A, 0x00, 0x00]),
+        (64, [0x80, 0x02, 0x00]),
+        (128, [0x00, 0x05, 0x00]),
+        (256, [0x00, 0x0A, 0x00]),
+    ] {
+        for pending in pendings() {
+            for status in 0..=0x0F {
+                let rig = burns(&Rig::new().at(3, status, pending).busy(count), timeout);
+                assert_eq!(rig.session, record(5, status, pending));
+                // A third one finds nothing to wait for.
+                expect(&rig, &GETSTATUS, &[], reports(5));
+            }
+        }
+    }
+}
+
+/// GETSTATUS with each count that the record has room for, in each admitted state.
+#[test]
+fn getstatus_with_each_count() {
+    let mut rig = Rig::new();
+    for count in 0..=65_535 {
+        for state in [0, 2, 3, 4, 5, 6, 9, 10] {
+            rig.session = Session { busy: count, ..record(state, 0x05, Pending::Byte(1)) };
+            let before = rig.session;
+            let answer = rig.send(&GETSTATUS, &[]);
+            if count > 256 || state == 0 {
+                let number = if count > 256 { 6 } else { 7 };
+                assert_eq!(answer.outcome, Outcome::Refused(number));
+                assert_eq!(rig.session, before);
+                continue;
+            }
+            let (entered, wait, after) = match state {
+                3 if count > 0 => (4, 10 * count, count),
+                3 | 4 => (5, 0, 0),
+                6 => (2, 0, count),
+                _ => (state, 0, count),
+            };
+            assert_eq!(answer, Answer { outcome: Outcome::Done, length: 6, pages: 0 });
+            let want = [0x05, (wait % 256) as u8, (wait / 256) as u8, 0, entered, 0];
+            assert_eq!(rig.reply[..6], want, "state {state}, count {count}");
+            assert_eq!(rig.session, Session { state: entered, busy: after, ..before });
+        }
+    }
+}
+
+/// "In state 4 GETSTATE, GETSTATUS and ABORT work and the rest stalls": every request
+/// number with either type and with two more, and every field of the three.
+#[test]
+fn in_state_4_three_work_and_the_rest_stalls() {
+    let start = Pending::Start { kind: StartKind::Reset, address: 0 };
+    let lent = [(Pending::Byte(0x77), 9), (start, 256), (Pending::Nothing, 0)];
+    let rigs = lent.map(|(pending, count)| Rig::new().at(4, 0x05, pending).busy(count));
+    let works = [GETSTATE, GETSTATUS, ABORT];
+    for rig in &rigs {
+        for kind in [0x21, 0xA1, 0x00, 0xC0] {
+            for request in 0..=255 {
+                for length in [0, 1, 6] {
+                    let setup = [kind, request, 0, 0, 0, 0, length, 0];
+                    if !works.contains(&setup) {
+                        let data = vec![0; if kind < 0x80 { length.into() } else { 0 }];
+                        expect(rig, &setup, &data, stalls);
+                    }
+                }
+            }
+        }
+        for right in works {
+            for place in 2..=5 {
+                let mut setup = right;
+                setup[place] = 1;
+                expect(rig, &setup, &[], stalls);
+            }
+        }
+        expect(rig, &GETSTATE, &[], |_| Said(Outcome::Done, vec![4], 0));
+        expect(rig, &GETSTATUS, &[], |rig| {
+            rig.session = Session { state: 5, busy: 0, ..rig.session };
+            Said(Outcome::Done, vec![0x05, 0, 0, 0, 5, 0], 0)
+        });
+        expect(rig, &ABORT, &[], |rig| {
+            rig.session = record(2, 0x00, Pending::Nothing);
+            Said(Outcome::Done, vec![], 0)
+        });
+    }
+}
+
+/// Power-up with any record: "state 2, status 00h, nothing pending", and the count is
+/// cleared, one that 6 would refuse too.
+#[test]
+fn power_up_clears_every_count() {
+    for count in 0..=65_535 {
+        for (state, status, pending) in [
+            (3, 0x00, Pending::Nothing),
+            (4, 0x05, Pending::Blank(0x1234)),
+            (0, 0x00, Pending::Nothing),
+            (77, 0x77, Pending::Blank(0xFFFF)),
+        ] {
+            let mut session = Session { state, status, pending, busy: count };
+            power_up(&mut session);
+            assert_eq!(session, record(2, 0x00, Pending::Nothing));
+        }
+    }
+    for state in 0..=255 {
+        for (count, _) in COUNTS {
+            let mut session = Session { busy: count, ..record(state, 0x0F, Pending::Byte(1)) };
+            power_up(&mut session);
+            assert_eq!(session, record(2, 0x00, Pending::Nothing));
+        }
+    }
+}
+
+/// "An accepted command ... sets it to its page count": each number of pages that
+/// programming can have, and each erase, then both GETSTATUS and the next command.
+#[test]
+fn a_command_is_burnt_for_its_pages() {
+    for (pages, timeout) in [
+        (1, [0x0A, 0x00, 0x00]),
+        (2, [0x14, 0x00, 0x00]),
+        (3, [0x1E, 0x00, 0x00]),
+        (8, [0x50, 0x00, 0x00]),
+    ] {
+        // So many whole pages from 4000h on.
+        let end = 0x4000 + 128 * pages as u16 - 1;
+        let bytes = vec![0x42; 128 * pages];
+        let rig = command(&Rig::new(), &transfer(FLASH, 0x4000, end, &bytes, 0), |rig| {
+            rig.flash[0x4000..=end.into()].fill(0x42);
+            taken(rig, Pending::Nothing, pages)
+        });
+        let rig = burns(&rig, timeout);
+        command(&rig, &[0x05, 0x00, 0x00], |rig| taken(rig, Pending::Byte(0x12), 0));
+    }
+    for (code, from, past, pages, timeout) in [
+        (0x00, 0x0000, 0x2000, 64, [0x80, 0x02, 0x00]),
+        (0x20, 0x2000, 0x4000, 64, [0x80, 0x02, 0x00]),
+        (0x40, 0x4000, 0x8000, 128, [0x00, 0x05, 0x00]),
+        (0xFF, 0x0000, 0x8000, 256, [0x00, 0x0A, 0x00]),
+    ] {
+        let rig = command(&Rig::filled(), &[0x04, 0x00, code], |rig| {
+            rig.flash[from..past].fill(0xFF);
+            taken(rig, Pending::Nothing, pages)
+        });
+        burns(&rig, timeout);
+    }
+    // "else 0": the EEPROM has no pages, and its status is there at once.
+    let bytes = [0x42; 1_024];
+    let rig = command(&Rig::new(), &transfer(EEPROM, 0x0000, 0x03FF, &bytes, 0), |rig| {
+        rig.eeprom.fill(0x42);
+        taken(rig, Pending::Nothing, 0)
+    });
+    expect(&rig, &GETSTATUS, &[], reports(5));
+}
+
+/// "Hosts ask again at once": GETSTATE moves nothing before the first GETSTATUS, between
+/// the two and after them.
+#[test]
+fn getstate_on_the_way() {
+    let state = |rig: &Rig, state: u8| {
+        for _ in 0..3 {
+            expect(rig, &GETSTATE, &[], |_| Said(Outcome::Done, vec![state], 0));
+        }
+    };
+    let rig = command(&Rig::new(), &[0x04, 0x00, 0x40], |rig| taken(rig, Pending::Nothing, 128));
+    state(&rig, 3);
+    let rig = expect(&rig, &GETSTATUS, &[], |rig| {
+        rig.session.state = 4;
+        Said(Outcome::Done, vec![0x00, 0x00, 0x05, 0x00, 0x04, 0x00], 0)
+    });
+    assert_eq!(rig.session.busy, 128);
+    state(&rig, 4);
+    let rig = expect(&rig, &GETSTATUS, &[], |rig| {
+        rig.session = record(5, 0x00, Pending::Nothing);
+        Said(Outcome::Done, vec![0x00, 0x00, 0x00, 0x00, 0x05, 0x00], 0)
+    });
+    state(&rig, 5);
+}
+
+/// The ways out of states 3 and 4 besides GETSTATUS all clear the count.
+#[test]
+fn the_ways_out_of_a_busy_board() {
+    let in_3 = command(&Rig::new(), &[0x04, 0x00, 0xFF], |rig| taken(rig, Pending::Nothing, 256));
+    let in_4 = expect(&in_3, &GETSTATUS, &[], |rig| {
+        rig.session.state = 4;
+        Said(Outcome::Done, vec![0, 0x00, 0x0A, 0x00, 4, 0], 0)
+    });
+    for rig in [in_3, in_4] {
+        let aborted = expect(&rig, &ABORT, &[], |rig| {
+            rig.session = record(2, 0x00, Pending::Nothing);
+            Said(Outcome::Done, vec![], 0)
+        });
+        expect(&aborted, &GETSTATUS, &[], reports(2));
+        for setup in [CLRSTATUS, DETACH, upload(1), dnload(0)] {
+            let stalled = expect(&rig, &setup, &[], |rig| {
+                rig.session = record(10, 0x0F, Pending::Nothing);
+                Said(Outcome::Stall, vec![], 0)
+            });
+            let cleared = expect(&stalled, &CLRSTATUS, &[], idles);
+            assert_eq!(cleared.session, record(2, 0x00, Pending::Nothing));
+        }
+        command(&rig, &[0x05, 0x00, 0x00], stalls);
+        let mut powered = rig.clone();
+        power_up(&mut powered.session);
+        assert_eq!(powered.session, record(2, 0x00, Pending::Nothing));
+    }
+}
+
+/// What is not named keeps the count: lent in state 10, it outlasts CLRSTATUS, a
+/// GETSTATUS of other states, a command answered with a status, uploads and a DNLOAD of
+/// no byte, and says nothing, until something that is named.
+#[test]
+fn a_lent_count_is_kept_by_what_is_not_named() {
+    let with = |state, status, pending| Session { busy: 9, ..record(state, status, pending) };
+    let nothing = Pending::Nothing;
+    let rig = Rig::new().at(10, 0x03, nothing).busy(9).ssb(LEVEL_2);
+    let rig = expect(&rig, &GETSTATUS, &[], reports(10));
+    let rig = expect(&rig, &CLRSTATUS, &[], idles);
+    assert_eq!(rig.session, with(2, 0x00, nothing));
+    let rig = expect(&rig, &GETSTATUS, &[], reports(2));
+    let rig = command(&rig, &[0x05, 0x02, 0x00], sets(0x0B));
+    assert_eq!(rig.session, with(10, 0x0B, nothing));
+    let rig = expect(&rig, &CLRSTATUS, &[], idles);
+    // An accepted command of no page sets it to 0, and its status is there at once.
+    let rig = command(&rig, &[0x05, 0x00, 0x00], |rig| taken(rig, Pending::Byte(0x12), 0));
+    let rig = expect(&rig, &GETSTATUS, &[], reports(5));
+    // Lent again: an upload in two parts, then the end of a download, then a start.
+    let rig = rig.at(5, 0x05, Pending::Blank(0x1234)).busy(9);
+    let rig = expect(&rig, &upload(1), &[], sends(1));
+    assert_eq!(rig.session, with(9, 0x00, Pending::Byte(0x34)));
+    let rig = expect(&rig, &GETSTATUS, &[], reports(9));
+    let rig = expect(&rig, &upload(1), &[], sends(1));
+    assert_eq!(rig.session, with(2, 0x00, nothing));
+    let rig = rig.at(5, 0x00, nothing).busy(9);
+    let rig = expect(&rig, &dnload(0), &[], ended);
+    assert_eq!(rig.session, with(6, 0x00, nothing));
+    let rig = expect(&rig, &GETSTATUS, &[], reports(2));
+    assert_eq!(rig.session, with(2, 0x00, nothing));
+    for state in [3, 5] {
+        let start = Pending::Start { kind: StartKind::Jump, address: 0x1234 };
+        let rig = rig.clone().at(state, 0x00, start).busy(9);
+        let rig = expect(&rig, &dnload(0), &[], ended);
+        assert_eq!(rig.session, with(0, 0x00, nothing));
+        expect(&rig, &GETSTATUS, &[], refuses(7));
+    }
+    // A stall where a stall moves little else.
+    let rig = rig.at(10, 0x03, nothing).busy(9);
+    let rig = expect(&rig, &ABORT, &[], stalls);
+    assert_eq!(rig.session, record(10, 0x03, nothing));
+}
+
+/// What is pending goes through states 3, 4 and 5 with the status, and can be sent or
+/// started only after that.
+#[test]
+fn what_is_pending_waits_in_state_4() {
+    for pending in pendings() {
+        let rig = Rig::filled().at(3, 0x05, pending).busy(9);
+        let sending = expect(&rig, &GETSTATUS, &[], |rig| {
+            rig.session.state = 4;
+            Said(Outcome::Done, vec![0x05, 0x5A, 0, 0, 4, 0], 0)
+        });
+        expect(&sending, &upload(1_024), &[], stalls);
+        expect(&sending, &dnload(0), &[], stalls);
+        let rig = burns(&rig, [0x5A, 0x00, 0x00]);
+        assert_eq!(rig.session, record(5, 0x05, pending));
+        if sendable(&rig.session) {
+            expect(&rig, &upload(1_024), &[], sends(1_024));
+        } else {
+            expect(&rig, &dnload(0), &[], ended);
+        }
+    }
+}
+
+/// A record that nobody lent: from power-up on, state 4 has a count, and no other state
+/// than 3 and 4 has one, as every way out of them clears it.
+#[test]
+fn a_run_from_power_up_is_busy_in_states_3_and_4_alone() {
+    let mut random = Xorshift(0x5555_AAAA_1234_8765);
+    let mut rig = Rig::new();
+    let (mut pages, mut burning) = (0, 0);
+    for _ in 0..60_000 {
+        let (mut setup, mut data) = any_request(&mut random);
+        if random.below(3) > 0 && matches!(rig.session.state, 3 | 4) {
+            (setup, data) = (GETSTATUS, vec![]);
+        } else if rig.session.state == 10 {
+            (setup, data) = (CLRSTATUS, vec![]);
+        } else if random.below(20) == 0 {
+            (setup, data) = (dnload(0), vec![]);
+        }
+        if rig.session.state == 0 || random.below(500) == 0 {
+            power_up(&mut rig.session);
+            rig.config = Rig::new().config;
+        }
+        let before = rig.session;
+        let answer = rig.send(&setup, &data);
+        if rig.session.state == 3 && before.state != 3 {
+            pages = answer.pages as u16;
+        }
+        match rig.session.state {
+            3 => assert_eq!(rig.session.busy, pages),
+            4 => {
+                assert!(pages > 0 && rig.session.busy == pages);
+                burning += 1;
+            }
+            _ => assert_eq!(rig.session.busy, 0),
+        }
+    }
+    // The run has to come by there often enough to say something.
+    assert!(burning > 1_000, "{burning}");
 }
 
 // ------------------------------------------------------------------- levels
@@ -975,7 +1666,7 @@ fn level_cells_of_writing_ssb() {
             let setup = dnload(4);
             step(&mut session, &mut config, &setup, &payload, &mut flash, &mut eeprom, &mut reply);
             let (state, status) = if yes { (3, 0x00) } else { (10, 0x03) };
-            assert_eq!(session, Session { state, status, pending: Pending::Nothing });
+            assert_eq!(session, record(state, status, Pending::Nothing));
             assert_eq!(config.bytes[5], if yes { value } else { ssb });
         }
     }
@@ -992,10 +1683,12 @@ fn a_board_of_level_2_is_free_after_a_full_erase() {
         let mut rig = Rig::new().ssb(ssb);
         rig.send(&dnload(3), &[0x04, 0x00, 0xFF]);
         rig.send(&GETSTATUS, &[]);
+        rig.send(&GETSTATUS, &[]);
         let mut rig = command(&rig, &transfer(0, 0x00AF, 0x00AF, &[0x42], 0), |rig| {
             rig.flash[0x00AF] = 0x42;
             taken(rig, Pending::Nothing, 1)
         });
+        rig.send(&GETSTATUS, &[]);
         rig.send(&GETSTATUS, &[]);
         let mut rig = command(&rig, &ranged(0x03, 0x00, 0x00AE, 0x00AF), |rig| {
             taken(rig, flash_read(0x00AE, 0x00AF), 0)
@@ -1010,7 +1703,8 @@ fn a_board_of_level_2_is_free_after_a_full_erase() {
 
 /// P1: "Demand 3 covers every such board, and two boards compared still hold the
 /// same SSB." No request tells apart flash bytes of which neither is FFh:
-/// READINGS 37.
+/// READINGS 37. P5: it "reads the busy count as part of the session", so the two have
+/// the same count before a request and after it.
 #[test]
 fn two_boards_of_level_2_with_one_ssb_answer_alike() {
     let mut random = Xorshift(0x0F1E_2D3C_4B5A_6978);
@@ -1023,7 +1717,8 @@ fn two_boards_of_level_2_with_one_ssb_answer_alike() {
         let (mut one, mut two) = (zeros.clone().ssb(ssb), others.clone().ssb(ssb));
         for _ in 0..100 {
             let (state, pending) = (random.pick(&STATES), random.pick(&pendings()));
-            one.session = Session { state, status: 0, pending };
+            let busy = random.pick(&[0, 0, 1, 9, 128, 256]);
+            one.session = Session { state, status: 0, pending, busy };
             two.session = one.session;
             let (setup, data) = any_request(&mut random);
             assert_eq!(one.send(&setup, &data), two.send(&setup, &data));
@@ -1447,20 +2142,16 @@ fn blank_checks() {
     rig.flash[0x1234] = 0x7F;
     rig.flash[0x7FFF] = 0x00;
     rig.eeprom.fill(0);
-    let finds = |start, end, address| {
-        let want = |rig: &mut Rig| {
-            rig.session = Session { state: 3, status: 0x05, pending: Pending::Blank(address) };
-            Said(Outcome::Done, vec![], 0)
-        };
-        command(&rig, &ranged(0x03, 0x01, start, end), want);
+    let meets = |start, end, address| {
+        command(&rig, &ranged(0x03, 0x01, start, end), |rig| finds(rig, address));
     };
-    finds(0x0000, 0x7FFF, 0x0000);
-    finds(0x0000, 0x0000, 0x0000);
-    finds(0x0001, 0x1234, 0x1234);
-    finds(0x1234, 0x1234, 0x1234);
-    finds(0x1234, 0x7FFF, 0x1234);
-    finds(0x1235, 0x7FFF, 0x7FFF);
-    finds(0x7FFF, 0x7FFF, 0x7FFF);
+    meets(0x0000, 0x7FFF, 0x0000);
+    meets(0x0000, 0x0000, 0x0000);
+    meets(0x0001, 0x1234, 0x1234);
+    meets(0x1234, 0x1234, 0x1234);
+    meets(0x1234, 0x7FFF, 0x1234);
+    meets(0x1235, 0x7FFF, 0x7FFF);
+    meets(0x7FFF, 0x7FFF, 0x7FFF);
     for (start, end) in [(0x0001, 0x1233), (0x1235, 0x7FFE), (0x0001, 0x0001)] {
         command(&rig, &ranged(0x03, 0x01, start, end), |rig| taken(rig, Pending::Nothing, 0));
     }
@@ -1473,12 +2164,12 @@ fn blank_check_finds_the_first_anywhere() {
     for (start, end) in [(0x0000_u16, 0x01FF_u16), (0x0105, 0x0301), (0x7E01, 0x7FFF)] {
         for place in start.saturating_sub(3)..=end.saturating_add(3).min(0x7FFF) {
             rig.flash[usize::from(place)] = 0xEF;
-            rig.session = Session { state: 2, status: 0, pending: Pending::Nothing };
+            rig.session = record(2, 0, Pending::Nothing);
             rig.send(&dnload(6), &ranged(0x03, 0x01, start, end));
             let inside = start <= place && place <= end;
             let pending = if inside { Pending::Blank(place) } else { Pending::Nothing };
             let status = if inside { 0x05 } else { 0x00 };
-            assert_eq!(rig.session, Session { state: 3, status, pending });
+            assert_eq!(rig.session, record(3, status, pending));
             rig.flash[usize::from(place)] = 0xFF;
         }
     }
@@ -1487,11 +2178,11 @@ fn blank_check_finds_the_first_anywhere() {
 /// Runs a blank check, which leaves 05h and the first address, or nothing.
 #[track_caller]
 fn checks(rig: &mut Rig, start: u16, end: u16, first: Option<u16>) {
-    rig.session = Session { state: 2, status: 0, pending: Pending::Nothing };
+    rig.session = record(2, 0, Pending::Nothing);
     let answer = rig.send(&dnload(6), &ranged(0x03, 0x01, start, end));
     assert_eq!(answer, Answer { outcome: Outcome::Done, length: 0, pages: 0 });
     let (status, pending) = first.map_or((0, Pending::Nothing), |at| (5, Pending::Blank(at)));
-    assert_eq!(rig.session, Session { state: 3, status, pending }, "{start:04X}h-{end:04X}h");
+    assert_eq!(rig.session, record(3, status, pending), "{start:04X}h-{end:04X}h");
 }
 
 /// "a range includes both ends", and no byte around it counts, of its own pages
@@ -1763,7 +2454,7 @@ fn writing_back_what_the_board_takes() {
     let mut written_back = 0;
     for _ in 0..30_000 {
         let payload = any_payload(&mut random);
-        rig.session = Session { state: 2, status: 0, pending: Pending::Nothing };
+        rig.session = record(2, 0, Pending::Nothing);
         rig.config.bytes[5] = LEVEL_0;
         let answer = rig.send(&dnload(payload.len()), &payload);
         match read_command(&payload) {
@@ -2080,6 +2771,7 @@ fn lines_of_every_outcome() {
         request(CLRSTATUS, &[]),
         request(dnload(3), &[0x04, 0x00, 0xFF]),
         request(GETSTATUS, &[]),
+        request(GETSTATUS, &[]),
         request(dnload(5), &[0x04, 0x03, 0x01, 0x12]),
         request(dnload(5), &[0x04, 0x03, 0x01, 0x12, 0x34]),
         request(dnload(0), &[]),
@@ -2088,7 +2780,7 @@ fn lines_of_every_outcome() {
     ]
     .concat();
     let want = concat!(
-        "job 13\n",
+        "job 14\n",
         "1 done 3 00 0 -\n",
         "2 done 5 00 0 000000000500\n",
         "3 done 10 03 0 -\n",
@@ -2096,12 +2788,13 @@ fn lines_of_every_outcome() {
         "5 stall 10 03 0 -\n",
         "6 done 2 00 0 -\n",
         "7 done 3 00 256 -\n",
-        "8 done 5 00 0 000000000500\n",
-        "9 ref4 5 00 0 -\n",
-        "10 done 3 00 0 -\n",
-        "11 start 0 00 0 -\n",
-        "12 ref7 0 00 0 -\n",
-        "13 ref4 0 00 0 -\n",
+        "8 done 4 00 0 00000A000400\n",
+        "9 done 5 00 0 000000000500\n",
+        "10 ref4 5 00 0 -\n",
+        "11 done 3 00 0 -\n",
+        "12 start 0 00 0 -\n",
+        "13 ref7 0 00 0 -\n",
+        "14 ref4 0 00 0 -\n",
     );
     assert_eq!(printed(&file), want);
 }
@@ -2111,6 +2804,7 @@ fn a_program_transfer_through_the_bench() {
     let bytes: Vec<u8> = (0..=255).cycle().take(1_024).collect();
     let file = [
         request(dnload(1_103), &transfer(0, 0x007F, 0x047E, &bytes, 0)),
+        request(GETSTATUS, &[]),
         request(GETSTATUS, &[]),
         nested(4, &request(dnload(6), &ranged(0x03, 0x00, 0x007E, 0x047D))),
         request(GETSTATUS, &[]),
@@ -2122,9 +2816,9 @@ fn a_program_transfer_through_the_bench() {
     let mut read = String::from("FF");
     bytes[..1_023].iter().for_each(|byte| read.push_str(&format!("{byte:02X}")));
     let want = format!(
-        "job 7\n1 done 3 00 9 -\n2 done 5 00 0 000000000500\n3 done 3 00 0 -\n\
-         4 done 5 00 0 000000000500\n5 done 2 00 0 {read}\n6 stall 10 0F 0 -\n\
-         7 done 10 0F 0 0F0000000A00\n"
+        "job 8\n1 done 3 00 9 -\n2 done 4 00 0 005A00000400\n3 done 5 00 0 000000000500\n\
+         4 done 3 00 0 -\n5 done 5 00 0 000000000500\n6 done 2 00 0 {read}\n\
+         7 stall 10 0F 0 -\n8 done 10 0F 0 0F0000000A00\n"
     );
     assert_eq!(printed(&file), want);
 }
@@ -2138,6 +2832,7 @@ fn both_memories_through_the_bench() {
     let file = [
         data(transfer(FLASH, 0x007F, 0x0080, &[0x12, 0x34], 0)),
         request(GETSTATUS, &[]),
+        request(GETSTATUS, &[]),
         data(transfer(EEPROM, 0x007F, 0x0080, &[0x56, 0x78], 0)),
         request(GETSTATUS, &[]),
         data(ranged(0x03, 0x00, 0x007E, 0x0081)),
@@ -2148,24 +2843,94 @@ fn both_memories_through_the_bench() {
         request(upload(4), &[]),
         data(transfer(FLASH, 0x0400, 0x0400, &[0x9A], 0)),
         request(GETSTATUS, &[]),
+        request(GETSTATUS, &[]),
         data(transfer(EEPROM, 0x0400, 0x0400, &[0x9A], 0)),
     ]
     .concat();
     let want = concat!(
-        "job 13\n",
+        "job 15\n",
         "1 done 3 00 2 -\n",
-        "2 done 5 00 0 000000000500\n",
-        "3 done 3 00 0 -\n",
-        "4 done 5 00 0 000000000500\n",
-        "5 done 3 00 0 -\n",
-        "6 done 5 00 0 000000000500\n",
-        "7 done 2 00 0 FF1234FF\n",
-        "8 done 3 00 0 -\n",
-        "9 done 5 00 0 000000000500\n",
-        "10 done 2 00 0 FF5678FF\n",
-        "11 done 3 00 1 -\n",
-        "12 done 5 00 0 000000000500\n",
-        "13 done 10 08 0 -\n",
+        "2 done 4 00 0 001400000400\n",
+        "3 done 5 00 0 000000000500\n",
+        "4 done 3 00 0 -\n",
+        "5 done 5 00 0 000000000500\n",
+        "6 done 3 00 0 -\n",
+        "7 done 5 00 0 000000000500\n",
+        "8 done 2 00 0 FF1234FF\n",
+        "9 done 3 00 0 -\n",
+        "10 done 5 00 0 000000000500\n",
+        "11 done 2 00 0 FF5678FF\n",
+        "12 done 3 00 1 -\n",
+        "13 done 4 00 0 000A00000400\n",
+        "14 done 5 00 0 000000000500\n",
+        "15 done 10 08 0 -\n",
+    );
+    assert_eq!(printed(&file), want);
+}
+
+/// P5 through the bench: a job that programs and asks the status twice, one that aborts
+/// while pages are burnt, and one that does not wait. A line shows the state after its
+/// request, the pages of that request alone, and the six bytes.
+#[test]
+fn a_busy_board_through_the_bench() {
+    let data = |payload: Vec<u8>| request(dnload(payload.len()), &payload);
+    let status = || request(GETSTATUS, &[]);
+    let file = [
+        data(transfer(FLASH, 0x00AF, 0x00AF, &[0x42], 0)),
+        request(GETSTATE, &[]),
+        status(),
+        request(GETSTATE, &[]),
+        status(),
+        request(GETSTATE, &[]),
+        status(),
+        // 05h is reported at once: a blank check has no page.
+        data(ranged(0x03, 0x01, 0x0000, 0x7FFF)),
+        status(),
+        request(upload(2), &[]),
+        // Full chip erase, aborted in state 4.
+        data(vec![0x04, 0x00, 0xFF]),
+        status(),
+        request(ABORT, &[]),
+        status(),
+        // The third block, and the next command comes too soon.
+        data(vec![0x04, 0x00, 0x40]),
+        status(),
+        data(vec![0x04, 0x00, 0x00]),
+        status(),
+        request(CLRSTATUS, &[]),
+        data(vec![0x04, 0x00, 0x00]),
+        request(ABORT, &[]),
+        data(transfer(FLASH, 0x007F, 0x047E, &[0x42; 1_024], 0)),
+        status(),
+        request(upload(1), &[]),
+    ]
+    .concat();
+    let want = concat!(
+        "job 24\n",
+        "1 done 3 00 1 -\n",
+        "2 done 3 00 0 03\n",
+        "3 done 4 00 0 000A00000400\n",
+        "4 done 4 00 0 04\n",
+        "5 done 5 00 0 000000000500\n",
+        "6 done 5 00 0 05\n",
+        "7 done 5 00 0 000000000500\n",
+        "8 done 3 05 0 -\n",
+        "9 done 5 05 0 050000000500\n",
+        "10 done 2 00 0 00AF\n",
+        "11 done 3 00 256 -\n",
+        "12 done 4 00 0 00000A000400\n",
+        "13 done 2 00 0 -\n",
+        "14 done 2 00 0 000000000200\n",
+        "15 done 3 00 128 -\n",
+        "16 done 4 00 0 000005000400\n",
+        "17 stall 10 0F 0 -\n",
+        "18 done 10 0F 0 0F0000000A00\n",
+        "19 done 2 00 0 -\n",
+        "20 done 3 00 64 -\n",
+        "21 done 2 00 0 -\n",
+        "22 done 3 00 9 -\n",
+        "23 done 4 00 0 005A00000400\n",
+        "24 stall 10 0F 0 -\n",
     );
     assert_eq!(printed(&file), want);
 }
@@ -2202,9 +2967,10 @@ fn shake(rig: &mut Rig, random: &mut Xorshift) {
     rig.eeprom.resize(if odd == 1 { wrong[1] } else { 1_024 }, 0x22);
     rig.reply.resize(if odd == 2 { wrong[2] } else { 1_024 }, 0x33);
     let byte = random.byte();
-    let state = random.pick(&[0, 2, 2, 2, 3, 5, 5, 5, 6, 9, 9, 10, byte]);
+    let state = random.pick(&[0, 2, 2, 2, 3, 4, 5, 5, 5, 6, 9, 9, 10, byte]);
     let status = random.pick(&[0, 5, 0x0F, 0x10, byte]);
-    rig.session = Session { state, status, pending: any_pending(random) };
+    let busy = random.pick(&[0, 0, 0, 1, 9, 256, 257, u16::from(byte)]);
+    rig.session = Session { state, status, pending: any_pending(random), busy };
     rig.config.bytes[5] = random.pick(&[0xFF, 0xFE, 0xFC, byte]);
 }
 
@@ -2237,12 +3003,13 @@ fn step_is_total() {
                 assert!(rig == before && answer.length == 0 && answer.pages == 0);
             }
             Outcome::Stall => {
-                assert_eq!(rig.session.state, 10);
+                assert_eq!((rig.session.state, rig.session.busy), (10, 0));
                 rig.session = before.session;
                 assert!(rig == before && answer.length == 0 && answer.pages == 0);
             }
             Outcome::Done | Outcome::Start { .. } => {
                 assert!(answer.length <= 1_024 && answer.pages <= 256);
+                assert!(rig.session.busy <= 256);
                 assert!(rig.reply[answer.length..] == before.reply[answer.length..]);
             }
         }
