@@ -26,11 +26,11 @@ use rules::Session;
 // "wLength over 1,103: stall."
 const MOST_DATA: u16 = 1103;
 
-// "A status above is set with state 10 and nothing pending, and nothing else moves."
-fn failed(config: Config, status: u8) -> Answer
-    ensures { λ r. ⌜ r ≡ answer (replyOf config Outcome.Done [] (sessionOf 10 status Pending.Nothing)) ⌝ }
+// "A status above is set with state 10 and nothing pending, and nothing else moves.": the busy count stays.
+fn failed(config: Config, status: u8, busy: u16) -> Answer
+    ensures { λ r. ⌜ r ≡ answer (replyOf config Outcome.Done [] (sessionOf 10 status Pending.Nothing busy)) ⌝ }
 {
-    quiet(config, Outcome::Done, 10, status, Pending::Nothing)
+    quiet(config, Outcome::Done, 10, status, Pending::Nothing, busy)
 }
 
 // A command whose form is right: the level, the address, and at last the whole length; then it is done.
@@ -50,10 +50,10 @@ fn obey(
     let status = level_status(command, level);
     let wrong = command::bad_address(command);
     if status != 0x00 {
-        return failed(config, status);
+        return failed(config, status, session.busy);
     }
     if wrong {
-        return failed(config, BAD_ADDRESS_STATUS);
+        return failed(config, BAD_ADDRESS_STATUS, session.busy);
     }
     if command::wrong_length(command, sent.len()) {
         return stall(session, config);
@@ -84,12 +84,19 @@ fn ended(session: Session, config: Config) -> Answer
     ensures { λ r. ⌜ r ≡ answer (endPlain (bare session config)) ⌝ }
 {
     if session.state == 5 {
-        return quiet(config, Outcome::Done, 6, session.status, Pending::Nothing);
+        return quiet(
+            config,
+            Outcome::Done,
+            6,
+            session.status,
+            Pending::Nothing,
+            session.busy,
+        );
     }
     stall(session, config)
 }
 
-// wLength 0: a pending start is answered in 3 and 5; else state 5 becomes 6.
+// wLength 0: a pending start is answered in 3 and 5; else state 5 becomes 6. Both keep the status and the busy count.
 fn end_download(session: Session, config: Config) -> Answer
     ensures { λ r. ⌜ r ≡ answer (endDownload (bare session config)) ⌝ }
 {
@@ -103,6 +110,7 @@ fn end_download(session: Session, config: Config) -> Answer
                 0,
                 session.status,
                 Pending::Nothing,
+                session.busy,
             ),
             _ => stall(session, config),
         },

@@ -20,6 +20,10 @@
  *   5     a start by reset       address     -
  *   6     a start at an address  address     -
  *
+ * The session has one part more, the busy page count: for how many pages a host still has to wait. The 64 bits have no room left for
+ * it, so it is a number of its own, of 16 bits, that is lent and changed beside the session. All 16 bits count, none is cut off, and
+ * a count above 256 is refused with 6.
+ *
  * Configuration: eight bytes.
  *
  *   bits 0-7     BSB
@@ -88,10 +92,12 @@
 extern "C" {
 #endif
 
-/* Takes one request and answers its outcome. Session, configuration, memories and reply are changed in place; *count gets how many bytes
- * of the reply are sent, *pages how many pages were stored. Refused, both are 0 and all else stays as it was, bit for bit. */
+/* Takes one request and answers its outcome. Session, busy page count, configuration, memories and reply are changed in place; *count
+ * gets how many bytes of the reply are sent, *pages how many pages were stored. Refused, both are 0 and all else stays as it was, bit for
+ * bit. */
 uint64_t loader_step(
     uint64_t *session,
+    uint16_t *busy,
     uint64_t *config,
     const uint8_t *setup, size_t setup_size,
     const uint8_t *sent, size_t sent_size,
@@ -101,8 +107,9 @@ uint64_t loader_step(
     size_t *count,
     size_t *pages);
 
-/* The session after power-up. */
-uint64_t loader_power_up(void);
+/* The session after power-up. *busy gets 0, the busy page count that goes with it. */
+uint64_t loader_power_up(
+    uint16_t *busy);
 
 /* Reads the data of a DNLOAD: 0x00 with the command and the places where its body and its suffix begin; 0x0F for a stall or 0x08 for a
  * wrong address, and then all three stay as they were. */

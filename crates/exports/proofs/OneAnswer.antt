@@ -14,15 +14,17 @@ use Rattle.exports.proofs.records.serial_delivered.Reads as serial-deli
 use Rattle.exports.proofs.records.serial_read_record.Reads as serial-read-record
 use Rattle.exports.proofs.records.serial_write_record.Reads as serial-write-record
 
--- s and s′ have what was lent, one parameter after the other: session, configuration, setup, data, flash, EEPROM, reply, count, pages
+-- s and s′ have what was lent, one parameter after the other: session, busy count, configuration, setup, data, flash, EEPROM, reply,
+-- count, pages
 pub of-loader-step : (κs : _) (a : _) (r r′ : _) (s s′ : _) → loader-step.Post κs a r s → loader-step.Post κs a r′ s′
-    → (r ≡ r′) × (s .0 .now ≡ s′ .0 .now) × (s .1 .0 .now ≡ s′ .1 .0 .now)
-    × (s .1 .1 .1 .1 .0 .now ≡ s′ .1 .1 .1 .1 .0 .now) × (s .1 .1 .1 .1 .1 .0 .now ≡ s′ .1 .1 .1 .1 .1 .0 .now)
-    × (s .1 .1 .1 .1 .1 .1 .0 .now ≡ s′ .1 .1 .1 .1 .1 .1 .0 .now) × (s .1 .1 .1 .1 .1 .1 .1 .0 .now ≡ s′ .1 .1 .1 .1 .1 .1 .1 .0 .now)
-    × (s .1 .1 .1 .1 .1 .1 .1 .1 .0 .now ≡ s′ .1 .1 .1 .1 .1 .1 .1 .1 .0 .now)
+    → (r ≡ r′) × (s .0 .now ≡ s′ .0 .now) × (s .1 .0 .now ≡ s′ .1 .0 .now) × (s .1 .1 .0 .now ≡ s′ .1 .1 .0 .now)
+    × (s .1 .1 .1 .1 .1 .0 .now ≡ s′ .1 .1 .1 .1 .1 .0 .now) × (s .1 .1 .1 .1 .1 .1 .0 .now ≡ s′ .1 .1 .1 .1 .1 .1 .0 .now)
+    × (s .1 .1 .1 .1 .1 .1 .1 .0 .now ≡ s′ .1 .1 .1 .1 .1 .1 .1 .0 .now) × (s .1 .1 .1 .1 .1 .1 .1 .1 .0 .now ≡ s′ .1 .1 .1 .1 .1 .1 .1 .1 .0 .now)
+    × (s .1 .1 .1 .1 .1 .1 .1 .1 .1 .0 .now ≡ s′ .1 .1 .1 .1 .1 .1 .1 .1 .1 .0 .now)
 of-loader-step κs a r r′ s s′ p q = (
   one (p .outcome-told) (q .outcome-told),
   one (p .session-told) (q .session-told),
+  one (p .busy-told) (q .busy-told),
   one (p .config-told) (q .config-told),
   one (p .flash) (q .flash),
   one (p .eeprom) (q .eeprom),
@@ -31,8 +33,9 @@ of-loader-step κs a r r′ s s′ p q = (
   one (p .pages-told) (q .pages-told),
 )
 
-pub of-loader-power-up : (κs : _) (a : _) (r r′ : _) (s s′ : _) → loader-power-up.Post κs a r s → loader-power-up.Post κs a r′ s′ → r ≡ r′
-of-loader-power-up κs a r r′ s s′ p q = one p q
+pub of-loader-power-up : (κs : _) (a : _) (r r′ : _) (s s′ : _) → loader-power-up.Post κs a r s → loader-power-up.Post κs a r′ s′
+    → (r ≡ r′) × (s .0 .now ≡ s′ .0 .now)
+of-loader-power-up κs a r r′ s s′ p q = (one (p .0) (q .0), one (p .1) (q .1))
 
 pub of-loader-read-command : (κs : _) (a : _) (r r′ : _) (s s′ : _) → loader-read-command.Post κs a r s → loader-read-command.Post κs a r′ s′
     → (r ≡ r′) × (s .1 .0 .now ≡ s′ .1 .0 .now) × (s .1 .1 .0 .now ≡ s′ .1 .1 .0 .now) × (s .1 .1 .1 .0 .now ≡ s′ .1 .1 .1 .0 .now)

@@ -5,6 +5,7 @@
 extern "C" {
     fn loader_step(
         session: &mut u64,
+        busy: &mut u16,
         config: &mut u64,
         setup: *const u8,
         setup_size: usize,
@@ -20,7 +21,7 @@ extern "C" {
         pages: &mut usize,
     ) -> u64;
 
-    fn loader_power_up() -> u64;
+    fn loader_power_up(busy: &mut u16) -> u64;
 
     fn loader_read_command(sent: *const u8, sent_size: usize, command: &mut u64, body: &mut usize, suffix: &mut usize) -> u8;
 
@@ -74,10 +75,12 @@ extern "C" {
     ) -> u8;
 }
 
-/// Takes one request: the outcome, how many bytes of the reply are sent, and how many pages were stored.
+/// Takes one request: the outcome, how many bytes of the reply are sent, and how many pages were stored. `busy` is the session's busy page
+/// count, which the session's number has no room for.
 #[inline(always)]
 pub fn step(
     session: &mut u64,
+    busy: &mut u16,
     config: &mut u64,
     setup: &[u8],
     sent: &[u8],
@@ -90,6 +93,7 @@ pub fn step(
     let outcome = unsafe {
         loader_step(
             session,
+            busy,
             config,
             setup.as_ptr(),
             setup.len(),
@@ -108,10 +112,12 @@ pub fn step(
     (outcome, count, pages)
 }
 
-/// The session after power-up.
+/// The session and its busy page count after power-up.
 #[inline(always)]
-pub fn power_up() -> u64 {
-    unsafe { loader_power_up() }
+pub fn power_up() -> (u64, u16) {
+    let mut busy = u16::MAX; // what it was before does not count
+    let session = unsafe { loader_power_up(&mut busy) };
+    (session, busy)
 }
 
 /// Reads the data of a DNLOAD: 0, 0Fh or 08h; where it is 0, the command and where its body and its suffix begin.

@@ -8,15 +8,16 @@ use Rattle.command.specs.declared.reader.Reading.the-variants.{Taken, Stalls, B
 use Rattle.rules.specs.Result.{Board, board, Result, next, pages, replyAfter}
 use Rattle.numbers.specs.Layout.{sessionOf, configOf, packSession, packConfig, packOutcome, packCommand, numberAfter}
 
--- the board whose session and configuration are lent as numbers
-abbrev pub numbered : ℕ → ℕ → List ℕ → List ℕ → Board
-numbered s c f e = board (sessionOf s) (configOf c) f e
+-- the board whose session, with its busy count apart, and configuration are lent as numbers
+abbrev pub numbered : ℕ → ℕ → ℕ → List ℕ → List ℕ → Board
+numbered s busy c f e = board (sessionOf s busy) (configOf c) f e
 
 -- the numbers and memories after a request to the board b are those of the result r; s and c were the numbers of its session and its
--- configuration, and p₀ was the reply
-pub record StepTold (b : Board) (r : Result) (s c : ℕ) (p₀ : List ℕ) (outcome session config sent stored : ℕ) (f e p : List ℕ) : Type 0 where
+-- configuration, and p₀ was the reply. The busy count is told as it stands: a refusal's is the one that was lent
+pub record StepTold (b : Board) (r : Result) (s c : ℕ) (p₀ : List ℕ) (outcome session busy config sent stored : ℕ) (f e p : List ℕ) : Type 0 where
   pub outcome-told : outcome ≡ packOutcome (r .outcome)
   pub session-told : session ≡ numberAfter (r .outcome) s (packSession (r .session))
+  pub busy-told : busy ≡ r .session .busy
   pub config-told : config ≡ numberAfter (r .outcome) c (packConfig (r .config))
   pub sent-told : sent ≡ length (r .sent)
   pub pages-told : stored ≡ pages r

@@ -22,11 +22,13 @@ ghost use Rattle.exports.specs.Exported.{StepTold, numbered, commandTold
 use command::Reading;
 use job::Verdict;
 
-// Takes one request. Session and configuration are changed in place; `count` and `pages` get how many bytes of the reply are sent
-// and how many pages were stored. The answer is the outcome. Refused, session and configuration stay as they were, bit for bit.
+// Takes one request. Session, with its busy count apart, and configuration are changed in place; `count` and `pages` get how many bytes
+// of the reply are sent and how many pages were stored. The answer is the outcome. Refused, session, busy count and configuration stay
+// as they were, bit for bit.
 #[no_mangle]
 pub extern "C" fn loader_step(
     session: &mut u64,
+    busy: &mut u16,
     config: &mut u64,
     setup: &[u8],
     sent: &[u8],
@@ -37,14 +39,14 @@ pub extern "C" fn loader_step(
     pages: &mut usize,
 ) -> u64
     ensures { λ r.
-        let b = numbered (now (session .entry)) (now (config .entry)) (now (flash .entry)) (now (eeprom .entry)) in
+        let b = numbered (now (session .entry)) (now (busy .entry)) (now (config .entry)) (now (flash .entry)) (now (eeprom .entry)) in
         let a = ask b (now (setup .entry)) (now (sent .entry)) (length (now (reply .entry))) in
         ⌜ StepTold b a (now (session .entry)) (now (config .entry)) (now (reply .entry))
-        r (now (session .exit)) (now (config .exit)) (now (count .exit)) (now (pages .exit))
+        r (now (session .exit)) (now (busy .exit)) (now (config .exit)) (now (count .exit)) (now (pages .exit))
         (now (flash .exit)) (now (eeprom .exit)) (now (reply .exit)) ⌝ }
 {
     let answer = loader::step(
-        numbers::session_of(*session),
+        numbers::session_of(*session, *busy),
         numbers::config_of(*config),
         setup,
         sent,
@@ -53,6 +55,7 @@ pub extern "C" fn loader_step(
         reply,
     );
     let outcome = answer.outcome;
+    *busy = answer.session.busy;
     *session = numbers::number_after(outcome, *session, numbers::pack_session(answer.session));
     *config = numbers::number_after(outcome, *config, numbers::pack_config(answer.config));
     *count = answer.length;
@@ -60,12 +63,14 @@ pub extern "C" fn loader_step(
     numbers::pack_outcome(outcome)
 }
 
-// The session after power-up.
+// The session after power-up; `busy` gets its busy count.
 #[no_mangle]
-pub extern "C" fn loader_power_up() -> u64
-    ensures { λ r. ⌜ r ≡ packSession idle ⌝ }
+pub extern "C" fn loader_power_up(busy: &mut u16) -> u64
+    ensures { λ r. ⌜ (r ≡ packSession idle) × (now (busy .exit) ≡ idle .busy) ⌝ }
 {
-    numbers::pack_session(requests::power_up())
+    let session = requests::power_up();
+    *busy = session.busy;
+    numbers::pack_session(session)
 }
 
 // Reads the data of a DNLOAD: 0 with the command and the places of its body and suffix, or 0Fh for a stall, or 08h.

@@ -73,6 +73,7 @@ pub fn step(
             session.state,
             session.status,
             pending,
+            session.busy,
         );
     }
     respond(

@@ -3,7 +3,7 @@ ghost use mathlib.Core.Path.{_≡_};
 ghost use mathlib.Core.Bool.{false};
 ghost use Prim.Native.Nat.{_≤_, _<_};
 ghost use lib.ListN.{length};
-ghost use Rattle.rules.specs.Session.{idle};
+ghost use Rattle.rules.specs.Session.{cleared};
 ghost use Rattle.rules.specs.Result.{board as boardOf};
 ghost use Rattle.rules.specs.Requests.{restOf, readSent, send as sendOf, upload as uploadOf};
 ghost use Rattle.rules.specs.Refusals.{badPending, replySize};
@@ -19,9 +19,9 @@ use rules::Outcome;
 use rules::Pending;
 use rules::Session;
 
-// Status 00h, a state, what is still pending, and how many bytes are sent.
-fn sent(config: Config, state: u8, pending: Pending, count: usize) -> Answer
-    ensures { λ r. ⌜ r ≡ sentAnswer config state pending count ⌝ }
+// Status 00h, a state, what is still pending, the busy count as it was, and how many bytes are sent.
+fn sent(config: Config, state: u8, pending: Pending, busy: u16, count: usize) -> Answer
+    ensures { λ r. ⌜ r ≡ sentAnswer config state pending busy count ⌝ }
 {
     Answer {
         outcome: Outcome::Done,
@@ -29,6 +29,7 @@ fn sent(config: Config, state: u8, pending: Pending, count: usize) -> Answer
             state,
             status: 0x00,
             pending,
+            busy,
         },
         config,
         length: count,
@@ -58,6 +59,7 @@ fn rest_of(range: Range, n: u16) -> Range
 
 // A memory read: its first bytes where more remains, else all of it.
 fn send_read(
+    busy: u16,
     config: Config,
     range: Range,
     n: u16,
@@ -66,42 +68,49 @@ fn send_read(
     reply: &mut [u8],
 ) -> Answer
     requires { ⌜ Sendable n (Pending.MemoryRead range) (now flash) (now eeprom) (now reply) ⌝ }
-    ensures { λ r. let b = boardOf idle config (now (flash .entry)) (now (eeprom .entry)) in
+    ensures { λ r. let b = boardOf (cleared busy) config (now (flash .entry)) (now (eeprom .entry)) in
         ⌜ Replied (sendOf b n (Pending.MemoryRead range)) r (now (reply .exit)) (now (reply .entry)) ⌝ }
 {
     let all = command::range_count(range);
     if (n as usize) < all {
         let count = memory::read(first_of(range, n), flash, eeprom, reply);
-        return sent(config, 9, Pending::MemoryRead(rest_of(range, n)), count);
+        return sent(
+            config,
+            9,
+            Pending::MemoryRead(rest_of(range, n)),
+            busy,
+            count,
+        );
     }
     let count = memory::read(range, flash, eeprom, reply);
-    sent(config, 2, Pending::Nothing, count)
+    sent(config, 2, Pending::Nothing, busy, count)
 }
 
 // The two bytes of a blank report, high byte first; after the first alone its low byte is pending.
-fn send_report(config: Config, address: FlashAddress, n: u16, reply: &mut [u8]) -> Answer
+fn send_report(busy: u16, config: Config, address: FlashAddress, n: u16, reply: &mut [u8]) -> Answer
     requires { ⌜ 0 < n ⌝ }
     requires { ⌜ replySize ≤ length (now reply) ⌝ }
-    ensures { λ r. let sending = sendOf (bare idle config) n (Pending.BlankReport address) in
+    ensures { λ r. let sending = sendOf (bare (cleared busy) config) n (Pending.BlankReport address) in
         ⌜ Replied sending r (now (reply .exit)) (now (reply .entry)) ⌝ }
 {
     let high = (address.0 / 256) as u8;
     let low = (address.0 % 256) as u8;
     if n == 1 {
         words::lay(reply, 0, &[high]);
-        return sent(config, 9, Pending::OneByte(low), 1);
+        return sent(config, 9, Pending::OneByte(low), busy, 1);
     }
     words::lay(reply, 0, &[high, low]);
-    sent(config, 2, Pending::Nothing, 2)
+    sent(config, 2, Pending::Nothing, busy, 2)
 }
 
-fn send_byte(config: Config, value: u8, n: u16, reply: &mut [u8]) -> Answer
+fn send_byte(busy: u16, config: Config, value: u8, n: u16, reply: &mut [u8]) -> Answer
     requires { ⌜ 0 < n ⌝ }
     requires { ⌜ replySize ≤ length (now reply) ⌝ }
-    ensures { λ r. ⌜ Replied (sendOf (bare idle config) n (Pending.OneByte value)) r (now (reply .exit)) (now (reply .entry)) ⌝ }
+    ensures { λ r. let sending = sendOf (bare (cleared busy) config) n (Pending.OneByte value) in
+        ⌜ Replied sending r (now (reply .exit)) (now (reply .entry)) ⌝ }
 {
     words::lay(reply, 0, &[value]);
-    sent(config, 2, Pending::Nothing, 1)
+    sent(config, 2, Pending::Nothing, busy, 1)
 }
 
 // Whether a level lets a memory read be sent.
@@ -133,12 +142,12 @@ fn send(
         Pending::Nothing => stall(session, config),
         Pending::MemoryRead(range) => {
             if read_sent(config::level_of(config)) {
-                return send_read(config, range, n, flash, eeprom, reply);
+                return send_read(session.busy, config, range, n, flash, eeprom, reply);
             }
             stall(session, config)
         }
-        Pending::BlankReport(address) => send_report(config, address, n, reply),
-        Pending::OneByte(value) => send_byte(config, value, n, reply),
+        Pending::BlankReport(address) => send_report(session.busy, config, address, n, reply),
+        Pending::OneByte(value) => send_byte(session.busy, config, value, n, reply),
         Pending::Start(_, _) => stall(session, config),
     }
 }

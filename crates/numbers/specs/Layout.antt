@@ -49,7 +49,8 @@ highByte w = w / 256 % 256
 abbrev pub twoBytes : ℕ → ℕ → ℕ
 twoBytes low high = low + 256 * high
 
--- ---- a session: the first word is state and status, the second the kind of what is pending, the others its numbers
+-- ---- a session: the first word is state and status, the second the kind of what is pending, the others its numbers. Its busy count
+-- (P5 of 02) has no room there and is a number of its own, as it stands
 
 -- kind 0 is nothing, 1 a read of flash and 2 of EEPROM with start and end, 3 a blank report, 4 one byte, 5 a start by reset, 6 a
 -- start at an address
@@ -81,8 +82,8 @@ pendingOf kind first last =
     if eqb kind 5 then Start Reset (flashAddress first) else
     if eqb kind 6 then Start AtAddress (flashAddress first) else Nothing
 
-abbrev pub sessionOf : ℕ → Session
-sessionOf n = session (lowByte (word0 n)) (highByte (word0 n)) (pendingOf (word1 n) (word2 n) (word3 n))
+abbrev pub sessionOf : ℕ → ℕ → Session
+sessionOf n busy = session (lowByte (word0 n)) (highByte (word0 n)) (pendingOf (word1 n) (word2 n) (word3 n)) busy
 
 -- ---- a configuration: its eight bytes, BSB the lowest, HSB the highest
 

@@ -1,5 +1,5 @@
--- What is packed is unpacked again, so that no two sessions, configurations or commands have one number. The statements are proved in
--- proofs/LayoutHolds.antt.
+-- What is packed is unpacked again, a session by its number and its busy count, so that no two sessions have both alike, and no two
+-- configurations or commands one number. The statements are proved in proofs/LayoutHolds.antt.
 use mathlib.Core.Path.{_≡_}
 use Prim.Native.Nat.{ℕ, _<_}
 use Rattle.memory.specs.declared.address.Range.{Range}
@@ -62,7 +62,7 @@ CommandFits (ReadByte i) = Byte i
 CommandFits ReadHsb = Unit {0}
 
 abbrev pub SessionKept : Type 0
-SessionKept = (s : Session) → SessionFits s → sessionOf (packSession s) ≡ s
+SessionKept = (s : Session) → SessionFits s → sessionOf (packSession s) (s .busy) ≡ s
 
 abbrev pub ConfigKept : Type 0
 ConfigKept = (c : Config) → ConfigFits c → configOf (packConfig c) ≡ c

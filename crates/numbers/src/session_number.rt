@@ -46,7 +46,7 @@ fn pack_pending(head: u16, pending: Pending) -> u64
     }
 }
 
-// The number of a session.
+// The number of a session, but for its busy count, which is a number of its own: the 64 bits have no room for it.
 pub fn pack_session(session: Session) -> u64
     ensures { λ r. ⌜ r ≡ packSession session ⌝ }
 {
@@ -68,9 +68,10 @@ fn pending_of(kind: u16, first: u16, last: u16) -> Pending
     }
 }
 
-// The session that a number stands for: any other kind of what is pending counts as nothing, and unused bits are not looked at.
-pub fn session_of(n: u64) -> Session
-    ensures { λ r. ⌜ r ≡ sessionOf n ⌝ }
+// The session that a number and a busy count stand for: any other kind of what is pending counts as nothing, and unused bits are not
+// looked at. The count is taken as it is.
+pub fn session_of(n: u64, busy: u16) -> Session
+    ensures { λ r. ⌜ r ≡ sessionOf n busy ⌝ }
 {
     let head = first_word(n);
     let pending = pending_of(second_word(n), third_word(n), fourth_word(n));
@@ -78,5 +79,6 @@ pub fn session_of(n: u64) -> Session
         state: low_byte(head),
         status: high_byte(head),
         pending,
+        busy,
     }
 }

@@ -14,6 +14,9 @@ const SETUP_SIZE: usize = 8;
 
 const REPLY_SIZE: usize = 1024;
 
+// P5 of 02: "refuses a busy count above 256".
+const MOST_BUSY: u16 = 256;
+
 fn known_state(state: u8) -> bool
     ensures { λ r. ⌜ r ≡ knownState state ⌝ }
 {
@@ -21,6 +24,7 @@ fn known_state(state: u8) -> bool
         0 => true,
         2 => true,
         3 => true,
+        4 => true,
         5 => true,
         6 => true,
         9 => true,
@@ -51,7 +55,10 @@ fn bad_session(session: Session) -> bool
         return true;
     }
     let pending = session.pending;
-    bad_pending(pending)
+    if bad_pending(pending) {
+        return true;
+    }
+    MOST_BUSY < session.busy
 }
 
 fn bad_data(setup: &[u8], sent: &[u8]) -> bool

@@ -68,18 +68,18 @@ module _ (s : Session) (c : Config) (f e : List ℕ) where
   either false false o o′ t u v h = record { answered = h; flash = refl; eeprom = refl }
 
   module _ (k : Command) (d : List ℕ) (status : ℕ) (told : status ≡ levelStatus k (level c)) where
-    pub forbidden : {a : Answer} → (status ≡ 0 → ⊥) → a ≡ answer (reply c Done [] (session 10 status Nothing))
+    pub forbidden : {a : Answer} → (status ≡ 0 → ⊥) → a ≡ answer (reply c Done [] (session 10 status Nothing (s .busy)))
         → Answered (board s c f e) (obey (board s c f e) k d) a f e
     unfolding obey
     forbidden h q =
         let t : eqb (levelStatus k (level c)) 0 ≡ false = ne-eqb _ 0 (λ z. h (told ∙ z)) in
-        rw t (record { answered = q ∙ ap (λ x. answer (reply c Done [] (session 10 x Nothing))) told; flash = refl; eeprom = refl })
+        rw t (record { answered = q ∙ ap (λ x. answer (reply c Done [] (session 10 x Nothing (s .busy)))) told; flash = refl; eeprom = refl })
 
     module _ (allowed : status ≡ 0) where
       yes-level : eqb (levelStatus k (level c)) 0 ≡ true
       yes-level = eq-eqb _ 0 (sym told ∙ allowed)
 
-      pub wrong-address : {a : Answer} → badAddress k ≡ true → a ≡ answer (reply c Done [] (session 10 0x08 Nothing))
+      pub wrong-address : {a : Answer} → badAddress k ≡ true → a ≡ answer (reply c Done [] (session 10 0x08 Nothing (s .busy)))
           → Answered (board s c f e) (obey (board s c f e) k d) a f e
       unfolding obey
       wrong-address b q = rw (yes-level, b) (record { answered = q; flash = refl; eeprom = refl })
@@ -106,7 +106,7 @@ module _ (s : Session) (c : Config) (f e : List ℕ) where
     ending h z q =
         rw (le-ltb mostData n h, eq-eqb n 0 z)
         (either (among (s .state) (3 ∷ 5 ∷ []) && startPending (s .pending)) (eqb (s .state) 5) (startOf (s .pending)) Stall
-        (session 0 (s .status) Nothing) (session 6 (s .status) Nothing) (stall (bare s c) .session) q)
+        (session 0 (s .status) Nothing (s .busy)) (session 6 (s .status) Nothing (s .busy)) (stall (bare s c) .session) q)
 
     pub commanding : {a : Answer} {f′ e′ : List ℕ} → n ≤ mostData → (n ≡ 0 → ⊥) → among (s .state) (2 ∷ 5 ∷ []) ≡ true
         → Answered (board s c f e) (obeyForm (board s c f e) (form d) d) a f′ e′ → Answered (board s c f e) (dnload (board s c f e) n d) a f′ e′
@@ -120,7 +120,7 @@ module _ (s : Session) (c : Config) (f e : List ℕ) where
 
 -- the end of a download, by the state and what is pending
 module _ (s : Session) (c : Config) (a : Answer) where
-  pub ends : eqb (s .state) 5 ≡ true → a ≡ answer (reply c Done [] (session 6 (s .status) Nothing)) → a ≡ answer (endPlain (bare s c))
+  pub ends : eqb (s .state) 5 ≡ true → a ≡ answer (reply c Done [] (session 6 (s .status) Nothing (s .busy))) → a ≡ answer (endPlain (bare s c))
   unfolding endPlain
   ends t q = rw t q
 
@@ -129,7 +129,7 @@ module _ (s : Session) (c : Config) (a : Answer) where
   ends-not t q = rw t q
 
   pub starts : (k : StartKind) (x : FlashAddress) → s .pending ≡ Start k x → among (s .state) (3 ∷ 5 ∷ []) ≡ true
-      → a ≡ answer (reply c (Started k x) [] (session 0 (s .status) Nothing)) → a ≡ answer (endDownload (bare s c))
+      → a ≡ answer (reply c (Started k x) [] (session 0 (s .status) Nothing (s .busy))) → a ≡ answer (endDownload (bare s c))
   unfolding endDownload
   starts k x p t q = rw (p, t) q
 

@@ -38,12 +38,13 @@ use Rattle.rules.specs.Session.{idle}
 use Rattle.rules.specs.Levels.{levelStatus}
 use Rattle.rules.specs.Commands.{stall, setStatus, perform, accept, blankEffect, forbidden, obey, obeyForm}
 use Rattle.rules.specs.Requests.{requestOf, Request, Dnload, Upload, GetStatus, GetState, ClrStatus, Abort, Other, mostData, respond, dnload}
-use Rattle.rules.specs.Requests.{endPlain, endDownload, upload}
+use Rattle.rules.specs.Requests.{commandStates, uploadStates, abortStates, upload}
 use Rattle.rules.specs.Refusals.{refusal}
 use Rattle.rules.specs.Step.{Ask, PowerUp, ask, powerUp, step}
 use Rattle.rules.specs.Effects.{PagesOf, Leaves, Effects, MovesNothing, RefusalsMoveNothing, RefusalsGiven, AcceptedRightly, AcceptedOnly, Commands}
 use Rattle.rules.specs.Effects.{AcceptedAlways, NotAcceptedSaid, StatusStays, WrittenBack, AnsweredIsWrittenBack, Awake}
 use Rattle.rules.specs.BenchCases.{Ready, Unnamed, download}
+use Rattle.rules.proofs.StepLaws.{through, empty-stalls}
 use Rattle.rules.proofs.PerformLaws.{transfer-fit}
 use Rattle.rules.proofs.Ready.{commanded, not-commanded, stateOf}
 use Rattle.rules.proofs.Shape.{Passed, Shape, refused, still, did, shape, isRefused}
@@ -154,6 +155,7 @@ accepted-rightly b number d k r (did c p q) e =
       allowed = p .level-right;
       done = ap (λ x. x .outcome) q;
       in-state-3 = ap (λ x. x .session .state) q;
+      busy-set = rw q;
     })
 
 pub accepted-only : AcceptedOnly
@@ -206,40 +208,26 @@ module _ (b : Board) (ten : b .session .state ≡ 10) where
   unfolding stall
   kept-stall = (refl, rw ten)
 
-  -- whatever two tests say
-  kept-both : (t u : Bool) (x : Result) → Kept x → Kept (if t then x else if u then x else x)
-  kept-both true u x h = h
-  kept-both false true x h = h
-  kept-both false false x h = h
-
-  kept-endDownload : endDownload b ≡ stall b
-  unfolding endDownload endPlain
-  kept-endDownload = rw ten
-
   kept-respond : (q : Request) (d : List ℕ) → (q ≡ ClrStatus → ⊥) → Kept (respond b q d)
   unfolding respond dnload upload
   kept-respond (Dnload n) d h =
-      let t : among (b .session .state) (2 ∷ 5 ∷ []) ≡ false = rw ten in
-      rw (kept-endDownload, t) (kept-both (ltb mostData n) (eqb n 0) (stall b) kept-stall)
+      let t : among (b .session .state) commandStates ≡ false = rw ten in
+      rw (empty-stalls b (rw ten) (rw ten), t) (through Kept (ltb mostData n) kept-stall (through Kept (eqb n 0) kept-stall kept-stall))
   kept-respond (Upload n) d h =
-      let t : among (b .session .state) (5 ∷ 9 ∷ []) ≡ false = rw ten in
+      let t : among (b .session .state) uploadStates ≡ false = rw ten in
       rw t kept-stall
   kept-respond GetStatus d h = (rw ten, refl)
   kept-respond GetState d h = (ten, refl)
   kept-respond ClrStatus d h = absurd (h refl)
   kept-respond Abort d h =
-      let t : among (b .session .state) (2 ∷ 3 ∷ 5 ∷ 6 ∷ 9 ∷ []) ≡ false = rw ten in
+      let t : among (b .session .state) abortStates ≡ false = rw ten in
       rw t kept-stall
   kept-respond Other d h = kept-stall
-
-  kept-ask : (t : Bool) (x y : Result) → Kept x → Kept y → Kept (if t then x else y)
-  kept-ask true x y h k = h
-  kept-ask false x y h k = k
 
 pub status-stays : StatusStays
 unfolding ask
 status-stays b setup d n ten h =
-    kept-ask b ten (eqb (refusal b setup d n) 0) (respond b (requestOf setup) d) _ (kept-respond b ten (requestOf setup) d h) (ten, refl)
+    through (Kept b ten) (eqb (refusal b setup d n) 0) (kept-respond b ten (requestOf setup) d h) (ten, refl)
 
 -- ---- the reader and the board
 

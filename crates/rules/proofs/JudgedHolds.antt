@@ -20,10 +20,10 @@ use Rattle.command.specs.declared.command.Command.the-variants.{ProgramFlash, P
 use Rattle.rules.specs.Result.{Board, Result}
 use Rattle.rules.specs.Levels.{levelStatus}
 use Rattle.rules.specs.Commands.{stall, setStatus, perform, accept, forbidden, obey, obeyForm}
-use Rattle.rules.specs.Judged.{transferWith, JudgedAlike}
+use Rattle.rules.specs.Judged.{transferWith, Alike, JudgedAlike}
 
-abbrev Alike : Result → Result → Type 0
-Alike r s = (r .outcome ≡ s .outcome) × (r .session ≡ s .session)
+same : (r : Result) → Alike r r
+same r = record { outcome = refl; state = refl; status = refl; pending = refl }
 
 -- an end that is inside the EEPROM is inside the flash
 inside-both : (a e : ℕ) → e < eepromSize → badEnds flashSize a e ≡ badEnds eepromSize a e
@@ -35,9 +35,9 @@ inside-both a e h =
 -- level, address and length, asked one after the other
 three-tests : (t u w : Bool) (x y z r s : Result) → Alike r s
     → Alike (if t then x else if u then y else if w then z else r) (if t then x else if u then y else if w then z else s)
-three-tests true u w x y z r s h = (refl, refl)
-three-tests false true w x y z r s h = (refl, refl)
-three-tests false false true x y z r s h = (refl, refl)
+three-tests true u w x y z r s h = same x
+three-tests false true w x y z r s h = same y
+three-tests false false true x y z r s h = same z
 three-tests false false false x y z r s h = h
 
 module _ (b : Board) (rest : List ℕ) (a e : ℕ) (h : e < eepromSize) where
@@ -53,12 +53,13 @@ module _ (b : Board) (rest : List ℕ) (a e : ℕ) (h : e < eepromSize) where
       rw (inside-both a e h)
       (three-tests (forbidden b to-eeprom) (badAddress to-eeprom) (badLength to-eeprom (transferWith 0x01 rest))
       (setStatus b (levelStatus to-eeprom (level (b .config)))) (setStatus b badAddressStatus) (stall b)
-      (accept to-flash (perform b to-flash (transferWith 0x00 rest))) (accept to-eeprom (perform b to-eeprom (transferWith 0x01 rest))) (refl, refl))
+      (accept to-flash (perform b to-flash (transferWith 0x00 rest))) (accept to-eeprom (perform b to-eeprom (transferWith 0x01 rest)))
+      (record { outcome = refl; state = refl; status = refl; pending = refl }))
 
   form-alike : (t : Bool) → Alike (obeyForm b (if t then some to-flash else none) (transferWith 0x00 rest))
       (obeyForm b (if t then some to-eeprom else none) (transferWith 0x01 rest))
   form-alike true = obey-alike
-  form-alike false = (refl, refl)
+  form-alike false = same (stall b)
 
 pub judged-alike : JudgedAlike
 unfolding form

@@ -41,14 +41,14 @@ use Rattle.rules.proofs.Ready.{commanded, statusOf}
 
 -- ---- one request is answered alike
 
-upload-same : (st k : ℕ) (p : Pending) (c : Config) (f f′ e e′ : List ℕ) → level c ≡ L2 → (n : ℕ)
-    → upload (board (session st k p) c f e) n ≡ upload (board (session st k p) c f′ e′) n
+upload-same : (st k : ℕ) (p : Pending) (busy : ℕ) (c : Config) (f f′ e e′ : List ℕ) → level c ≡ L2 → (n : ℕ)
+    → upload (board (session st k p busy) c f e) n ≡ upload (board (session st k p busy) c f′ e′) n
 unfolding upload send stall
-upload-same st k Nothing c f f′ e e′ lv n = refl
-upload-same st k (MemoryRead r) c f f′ e e′ lv n = rw (lv, and-false)
-upload-same st k (BlankReport a) c f f′ e e′ lv n = refl
-upload-same st k (OneByte v) c f f′ e e′ lv n = refl
-upload-same st k (Start j a) c f f′ e e′ lv n = refl
+upload-same st k Nothing busy c f f′ e e′ lv n = refl
+upload-same st k (MemoryRead r) busy c f f′ e e′ lv n = rw (lv, and-false)
+upload-same st k (BlankReport a) busy c f f′ e e′ lv n = refl
+upload-same st k (OneByte v) busy c f f′ e e′ lv n = refl
+upload-same st k (Start j a) busy c f f′ e e′ lv n = refl
 
 module _ (s : Session) (c : Config) (f f′ e e′ : List ℕ) (lv : level c ≡ L2) (m : marks f ≡ marks f′) where
   obey-same : (k : Command) (d : List ℕ) → obey (board s c f e) k d ≡ obey (board s c f′ e′) k d
@@ -82,7 +82,7 @@ module _ (s : Session) (c : Config) (f f′ e e′ : List ℕ) (lv : level c ≡
   respond-same : (q : Request) (d : List ℕ) → respond (board s c f e) q d ≡ respond (board s c f′ e′) q d
   unfolding respond stall
   respond-same (Dnload n) d = dnload-same n d
-  respond-same (Upload n) d = upload-same (s .state) (s .status) (s .pending) c f f′ e e′ lv n
+  respond-same (Upload n) d = upload-same (s .state) (s .status) (s .pending) (s .busy) c f f′ e e′ lv n
   respond-same GetStatus d = refl
   respond-same GetState d = refl
   respond-same ClrStatus d = refl
@@ -228,13 +228,13 @@ told blank = (if blank then 0x00 else 0x05) ∷ 0 ∷ 0 ∷ 0 ∷ 5 ∷ 0 ∷ []
 
 module _ (s : Session) (c : Config) (f e : List ℕ) (hf : length f ≡ flashSize) (he : length e ≡ eepromSize) (u : Unnamed) (x : ℕ) (h : x < flashSize) where
   checked : Bool → Session
-  checked t = session 3 (if t then 0x00 else 0x05) (if t then Nothing else BlankReport (flashAddress x))
+  checked t = session 3 (if t then 0x00 else 0x05) (if t then Nothing else BlankReport (flashAddress x)) 0
 
   after-check : (t : Bool) → step (board (checked t) c f e) (askStatus u) .sent ≡ told t
   unfolding checked told
-  after-check true = ap (λ r. r .sent) (statusOf (session 3 0x00 Nothing) c f e hf he refl refl u)
+  after-check true = ap (λ r. r .sent) (statusOf (session 3 0x00 Nothing 0) c f e hf he refl refl u)
   after-check false =
-      ap (λ r. r .sent) (statusOf (session 3 0x05 (BlankReport (flashAddress x))) c f e hf he (le-ltb lastFlash x (omega arith)) refl u)
+      ap (λ r. r .sent) (statusOf (session 3 0x05 (BlankReport (flashAddress x)) 0) c f e hf he (rw (le-ltb lastFlash x (omega arith))) refl u)
 
   ready : Ready (level c) (board idle c f e)
   ready = record { in-state-2 = refl; valid = refl; flash-size = hf; eeprom-size = he; at-level = refl }

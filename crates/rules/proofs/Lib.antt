@@ -1,4 +1,4 @@
--- Laws of the definitions; then the proofs of the statements in specs/: Effects, BenchCases and LevelTwo.
+-- Laws of the definitions; then the proofs of the statements in specs/.
 pub mod StatusLaws
 pub mod StepLaws
 pub mod PerformLaws
@@ -8,5 +8,6 @@ pub mod Shape
 pub mod EffectsHold
 pub mod Ready
 pub mod BenchCasesHold
+pub mod BusyHolds
 pub mod LevelTwoHolds
 pub mod JudgedHolds

@@ -21,7 +21,8 @@ use Rattle.rules.specs.Levels.{levelStatus}
 use Rattle.rules.specs.Result.{Board, Result, reply, Outcome, Done, Stall, Started, Refused}
 use Rattle.rules.specs.Commands.{stall, perform, accept, forbidden, obey, obeyForm}
 use Rattle.rules.specs.Requests.{Request, Dnload, Upload, GetStatus, GetState, ClrStatus, Abort, Other, requestOf, startPending, startOf}
-use Rattle.rules.specs.Requests.{endPlain, endDownload, mostData, dnload, sendable, send, upload, respond}
+use Rattle.rules.specs.Requests.{clrStates, abortStates, endPlain, startStates, endDownload, mostData, commandStates, dnload, uploadStates, sendable, send}
+use Rattle.rules.specs.Requests.{upload, respond}
 use Rattle.rules.specs.Refusals.{refusal}
 use Rattle.rules.specs.Step.{ask}
 use Rattle.rules.proofs.StepLaws.{unrefused}
@@ -87,7 +88,7 @@ module _ (b : Board) (number : ℕ) (d : List ℕ) (hf : length (b .flash) ≡ f
   of-endDownload : Shape b number d (endDownload b)
   unfolding endDownload endPlain
   of-endDownload =
-      pick (among (b .session .state) (3 ∷ 5 ∷ []) && startPending (b .session .pending))
+      pick (among (b .session .state) startStates && startPending (b .session .pending))
       (λ x. still _ _ _ (start-plain (b .session .pending)) refl) (λ x.
       pick (eqb (b .session .state) 5) (λ y. still _ _ _ refl refl) (λ y. of-stall))
 
@@ -96,14 +97,14 @@ module _ (b : Board) (number : ℕ) (d : List ℕ) (hf : length (b .flash) ≡ f
   of-respond (Dnload n) =
       pick (ltb mostData n) (λ x. of-stall) (λ x.
       pick (eqb n 0) (λ y. of-endDownload) (λ y.
-      pick (among (b .session .state) (2 ∷ 5 ∷ [])) (λ z. of-form (form d) refl) (λ z. of-stall)))
+      pick (among (b .session .state) commandStates) (λ z. of-form (form d) refl) (λ z. of-stall)))
   of-respond (Upload n) =
-      pick (among (b .session .state) (5 ∷ 9 ∷ []) && ltb 0 n && sendable (b .session .pending) (level (b .config)))
+      pick (among (b .session .state) uploadStates && ltb 0 n && sendable (b .session .pending) (level (b .config)))
       (λ x. still _ _ _ refl refl) (λ x. of-stall)
   of-respond GetStatus = still _ _ _ refl refl
   of-respond GetState = still _ _ _ refl refl
-  of-respond ClrStatus = pick (among (b .session .state) (10 ∷ [])) (λ x. still _ _ _ refl refl) (λ x. of-stall)
-  of-respond Abort = pick (among (b .session .state) (2 ∷ 3 ∷ 5 ∷ 6 ∷ 9 ∷ [])) (λ x. still _ _ _ refl refl) (λ x. of-stall)
+  of-respond ClrStatus = pick (among (b .session .state) clrStates) (λ x. still _ _ _ refl refl) (λ x. of-stall)
+  of-respond Abort = pick (among (b .session .state) abortStates) (λ x. still _ _ _ refl refl) (λ x. of-stall)
   of-respond Other = of-stall
 
 pub shape : (b : Board) (setup d : List ℕ) (n : ℕ) → Shape b (refusal b setup d n) d (ask b setup d n)

@@ -23,8 +23,10 @@ use Rattle.rules.specs.Session.{Session}
 use Rattle.rules.specs.Result.{Board, board, Result, reply, Answer, answer, Refused}
 use Rattle.rules.specs.Commands.{stall, forbidden, obey, obeyForm}
 use Rattle.rules.specs.Requests.{Request, Dnload, Upload, GetStatus, GetState, ClrStatus, Abort, Other, requestOf, startPending, endPlain}
-use Rattle.rules.specs.Requests.{endDownload, mostData, dnload, sendable, send, upload, getStatus, getState, clrStatus, abort, clearIn, respond}
-use Rattle.rules.specs.Refusals.{knownState, badPending, badSession, badData, replySize, refusal}
+use Rattle.rules.specs.Requests.{startStates, endDownload, mostData, commandStates, dnload, uploadStates, sendable, send, upload}
+use Rattle.rules.specs.Requests.{getStatus, getState, clearIn}
+use Rattle.rules.specs.Requests.{clrStates, clrStatus, abortStates, abort, respond}
+use Rattle.rules.specs.Refusals.{knownState, badPending, badSession, badData, mostBusy, replySize, refusal}
 use Rattle.rules.specs.Step.{ask}
 use Rattle.rules.specs.Answered.{bare, Answered, Replied, Stepped}
 
@@ -50,13 +52,14 @@ pub unrefused : (b : Board) (setup d : List ℕ) (n : ℕ) → refusal b setup d
 unfolding refusal
 unrefused b setup d n q =
     let s : Session = b .session in
+    let head : Bool = not (knownState (s .state)) || ltb 0x0F (s .status) in
     let h = passed (eqb (length setup) 8) (eqb (length (b .flash)) flashSize) (eqb (length (b .eeprom)) eepromSize) (badData setup d)
     (ltb n replySize) (badSession s) _ q in
     record {
       flash-size = eqb-true _ flashSize (h .0);
       eeprom-size = eqb-true _ eepromSize (h .1);
       room = ltb-false n replySize (h .2);
-      pending-right = or-false (not (knownState (s .state)) || ltb 0x0F (s .status)) (badPending (s .pending)) (h .3) .1;
+      pending-right = or-false head (badPending (s .pending)) (or-false (head || badPending (s .pending)) (ltb mostBusy (s .busy)) (h .3) .0) .1;
     }
 
 -- a result that stores nothing; one that also sends nothing
@@ -64,9 +67,15 @@ record Still (r : Result) : Type 0 where
   stored : r .stored ≡ []
   patched : r .patched ≡ []
 
-through : (P : Result → Type 0) (t : Bool) {x y : Result} → P x → P y → P (if t then x else y)
+-- what holds of two results holds of the one that a test picks
+pub through : (P : Result → Type 0) (t : Bool) {x y : Result} → P x → P y → P (if t then x else y)
 through P true p q = p
 through P false p q = q
+
+-- an empty DNLOAD stalls in a state that neither starts nor ends
+pub empty-stalls : (b : Board) → among (b .session .state) startStates ≡ false → eqb (b .session .state) 5 ≡ false → endDownload b ≡ stall b
+unfolding endDownload endPlain
+empty-stalls b t u = rw (t, u)
 
 module _ (b : Board) where
   abbrev silent : Result → Type 0
@@ -93,21 +102,21 @@ module _ (b : Board) where
   unfolding dnload endDownload endPlain
   silent-dnload n d =
       through silent (ltb mostData n) silent-stall (through silent (eqb n 0)
-      (through silent (among (b .session .state) (3 ∷ 5 ∷ []) && startPending (b .session .pending)) refl
+      (through silent (among (b .session .state) startStates && startPending (b .session .pending)) refl
       (through silent (eqb (b .session .state) 5) refl silent-stall))
-      (through silent (among (b .session .state) (2 ∷ 5 ∷ [])) (silent-form (form d) d) silent-stall))
+      (through silent (among (b .session .state) commandStates) (silent-form (form d) d) silent-stall))
 
   still-upload : (n : ℕ) → Still (upload b n)
   unfolding upload send
   still-upload n =
-      through Still (among (b .session .state) (5 ∷ 9 ∷ []) && ltb 0 n && sendable (b .session .pending) (level (b .config)))
+      through Still (among (b .session .state) uploadStates && ltb 0 n && sendable (b .session .pending) (level (b .config)))
       (record { stored = refl; patched = refl }) still-stall
 
-  silent-clear : (states : List ℕ) → silent (clearIn states b)
-  silent-clear states = through silent (among (b .session .state) states) refl silent-stall
+  silent-clear : (states : List ℕ) (busy : ℕ) → silent (clearIn states busy b)
+  silent-clear states busy = through silent (among (b .session .state) states) refl silent-stall
 
-  still-clear : (states : List ℕ) → Still (clearIn states b)
-  still-clear states = through Still (among (b .session .state) states) (record { stored = refl; patched = refl }) still-stall
+  still-clear : (states : List ℕ) (busy : ℕ) → Still (clearIn states busy b)
+  still-clear states busy = through Still (among (b .session .state) states) (record { stored = refl; patched = refl }) still-stall
 
 -- each request, from what its function promises
 module _ (s : Session) (c : Config) (f e d p : List ℕ) where
@@ -141,11 +150,11 @@ module _ (s : Session) (c : Config) (f e d p : List ℕ) where
 
   pub by-clrStatus : {a : Answer} → a ≡ answer (clrStatus (bare s c)) → Answers ClrStatus a f e p
   unfolding respond stall
-  by-clrStatus q = nothing-sent (clrStatus b) (silent-clear b (10 ∷ [])) (still-clear b (10 ∷ [])) q
+  by-clrStatus q = nothing-sent (clrStatus b) (silent-clear b clrStates _) (still-clear b clrStates _) q
 
   pub by-abort : {a : Answer} → a ≡ answer (abort (bare s c)) → Answers Abort a f e p
   unfolding respond stall
-  by-abort q = nothing-sent (abort b) (silent-clear b (2 ∷ 3 ∷ 5 ∷ 6 ∷ 9 ∷ [])) (still-clear b (2 ∷ 3 ∷ 5 ∷ 6 ∷ 9 ∷ [])) q
+  by-abort q = nothing-sent (abort b) (silent-clear b abortStates 0) (still-clear b abortStates 0) q
 
   pub by-stall : {a : Answer} → a ≡ answer (stall (bare s c)) → Answers Other a f e p
   unfolding respond stall

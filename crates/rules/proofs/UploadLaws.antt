@@ -20,7 +20,7 @@ use Rattle.memory.specs.declared.address.Range.the-variants.{Flash, Eeprom}
 use Rattle.config.specs.declared.config.Config.{Config}
 use Rattle.command.specs.Address.{badRange}
 use Rattle.command.proofs.AddressLaws.{Good, badEnds-good}
-use Rattle.rules.specs.Session.{Session, idle, Pending, Nothing, MemoryRead, BlankReport, OneByte}
+use Rattle.rules.specs.Session.{Session, cleared, Pending, Nothing, MemoryRead, BlankReport, OneByte}
 use Rattle.rules.specs.Result.{Board, board, Answer, answer}
 use Rattle.rules.specs.Commands.{stall}
 use Rattle.rules.specs.Requests.{sendable, rangeContent, pendingBytes, pendingCount, restOf, pendingAfter, send, upload}
@@ -31,11 +31,12 @@ use Rattle.rules.proofs.PerformLaws.{selected-sized}
 -- the reply of a send, from its bytes and their count k
 module _ (b : Board) (n : ℕ) (q : Pending) (k : ℕ) (p p′ : List ℕ) (told : k ≡ length (take n (pendingBytes b q)))
     (over : p′ ≡ take n (pendingBytes b q) ++ drop (length (take n (pendingBytes b q))) p) where
-  more-remains : {a : Answer} → ltb n (pendingCount q) ≡ true → a ≡ sentAnswer (b .config) 9 (pendingAfter n q) k → Replied (send b n q) a p′ p
+  more-remains : {a : Answer} → ltb n (pendingCount q) ≡ true → a ≡ sentAnswer (b .config) 9 (pendingAfter n q) (b .session .busy) k
+      → Replied (send b n q) a p′ p
   unfolding send
   more-remains t h = record { answered = h ∙ rw (t, told); reply = over }
 
-  none-remains : {a : Answer} → ltb n (pendingCount q) ≡ false → a ≡ sentAnswer (b .config) 2 Nothing k → Replied (send b n q) a p′ p
+  none-remains : {a : Answer} → ltb n (pendingCount q) ≡ false → a ≡ sentAnswer (b .config) 2 Nothing (b .session .busy) k → Replied (send b n q) a p′ p
   unfolding send
   none-remains t h = record { answered = h ∙ rw (t, told); reply = over }
 
@@ -61,7 +62,7 @@ module _ (a e x n k : ℕ) (m p : List ℕ) (last : suc x ≡ a + k) (some-bytes
 module _ (b : Board) (q : Pending) (a e n k : ℕ) (m p p′ : List ℕ) (bytes : pendingBytes b q ≡ part a e m) (all : pendingCount q ≡ count a e)
     (forward : a ≤ e) (inside : e < length m) (room : count a e ≤ length p) (asked : 0 < n) where
   first-part : {z : Answer} → n < count a e → k ≡ copied a (a + (n - 1)) m p → p′ ≡ bufferAfter a (a + (n - 1)) m p
-      → z ≡ sentAnswer (b .config) 9 (pendingAfter n q) k → Replied (send b n q) z p′ p
+      → z ≡ sentAnswer (b .config) 9 (pendingAfter n q) (b .session .busy) k → Replied (send b n q) z p′ p
   first-part l j g h =
       let x : ℕ = a + (n - 1) in
       let those : take n (part a e m) ≡ take n (drop a m) = take-take n (count a e) (drop a m) (omega arith) in
@@ -71,7 +72,7 @@ module _ (b : Board) (q : Pending) (a e n k : ℕ) (m p p′ : List ℕ) (bytes 
       more-remains b n q k p p′ (rw bytes (j ∙ how-many a e x n n m p u asked v w those))
       (rw bytes (g ∙ over-front a e x n n m p u asked v w those)) (rw all (lt-ltb n (count a e) l)) h
 
-  whole-part : {z : Answer} → count a e ≤ n → k ≡ copied a e m p → p′ ≡ bufferAfter a e m p → z ≡ sentAnswer (b .config) 2 Nothing k
+  whole-part : {z : Answer} → count a e ≤ n → k ≡ copied a e m p → p′ ≡ bufferAfter a e m p → z ≡ sentAnswer (b .config) 2 Nothing (b .session .busy) k
       → Replied (send b n q) z p′ p
   whole-part l j g h =
       let c : ℕ = count a e in
@@ -82,9 +83,12 @@ module _ (b : Board) (q : Pending) (a e n k : ℕ) (m p p′ : List ℕ) (bytes 
       none-remains b n q k p p′ (rw bytes (j ∙ how-many a e e n c m p u v inside room those))
       (rw bytes (g ∙ over-front a e e n c m p u v inside room those)) (rw all (le-ltb n (count a e) l)) h
 
--- a memory read, by the memory that its range selects
-module _ (c : Config) (f e p : List ℕ) (n k : ℕ) (p′ : List ℕ) where
-  bytes-of : (r : Range) → rangeContent (board idle c f e) r ≡ part (rangeStart r) (rangeEnd r) (selected r f e)
+-- a memory read, by the memory that its range selects; of the session the busy count alone is looked at
+module _ (busy : ℕ) (c : Config) (f e p : List ℕ) (n k : ℕ) (p′ : List ℕ) where
+  abbrev b : Board
+  b = board (cleared busy) c f e
+
+  bytes-of : (r : Range) → rangeContent b r ≡ part (rangeStart r) (rangeEnd r) (selected r f e)
   bytes-of (Flash x y) = refl
   bytes-of (Eeprom x y) = refl
 
@@ -107,15 +111,15 @@ module _ (c : Config) (f e p : List ℕ) (n k : ℕ) (p′ : List ℕ) where
     roomy = let i = good .short in let u = h .ready .room in omega arith
 
     pub reads-first : {z : Answer} → n < rangeCount r → k ≡ readCount (firstOf n r) f e p → p′ ≡ readBuffer (firstOf n r) f e p
-        → z ≡ sentAnswer c 9 (MemoryRead (restOf n r)) k → Replied (send (board idle c f e) n (MemoryRead r)) z p′ p
+        → z ≡ sentAnswer c 9 (MemoryRead (restOf n r)) busy k → Replied (send b n (MemoryRead r)) z p′ p
     reads-first l j g q =
-        first-part (board idle c f e) (MemoryRead r) (rangeStart r) (rangeEnd r) n k (selected r f e) p p′ (bytes-of r) refl (good .forward)
+        first-part b (MemoryRead r) (rangeStart r) (rangeEnd r) n k (selected r f e) p p′ (bytes-of r) refl (good .forward)
         (inside-of r (h .ready .sizes) (good .inside)) roomy (h .some-asked) l (j ∙ first-count r) (g ∙ first-buffer r) q
 
-    pub reads-all : {z : Answer} → rangeCount r ≤ n → k ≡ readCount r f e p → p′ ≡ readBuffer r f e p → z ≡ sentAnswer c 2 Nothing k
-        → Replied (send (board idle c f e) n (MemoryRead r)) z p′ p
+    pub reads-all : {z : Answer} → rangeCount r ≤ n → k ≡ readCount r f e p → p′ ≡ readBuffer r f e p → z ≡ sentAnswer c 2 Nothing busy k
+        → Replied (send b n (MemoryRead r)) z p′ p
     reads-all l j g q =
-        whole-part (board idle c f e) (MemoryRead r) (rangeStart r) (rangeEnd r) n k (selected r f e) p p′ (bytes-of r) refl (good .forward)
+        whole-part b (MemoryRead r) (rangeStart r) (rangeEnd r) n k (selected r f e) p p′ (bytes-of r) refl (good .forward)
         (inside-of r (h .ready .sizes) (good .inside)) roomy (h .some-asked) l j g q
 
 -- a range with more than n bytes splits after them, and n bytes on is still a word
@@ -128,40 +132,43 @@ in-word (Flash x y) n p = let m = p .more in let i = p .inside in omega arith
 in-word (Eeprom x y) n p = let m = p .more in let i = p .inside in omega arith
 
 -- a blank report and one byte
-module _ (c : Config) (n : ℕ) (p p′ : List ℕ) (room : 1024 ≤ length p) where
-  pub report-first : (x : FlashAddress) {z : Answer} → n ≡ 1 → p′ ≡ laid 0 (x .0 / 256 ∷ []) p → z ≡ sentAnswer c 9 (OneByte (x .0 % 256)) 1
-      → Replied (send (bare idle c) n (BlankReport x)) z p′ p
-  report-first x one g h =
-      more-remains (bare idle c) n (BlankReport x) 1 p p′ (rw one) (rw one (reply-laid (x .0 / 256 ∷ []) p p′ (omega arith) g)) (rw one) h
+module _ (busy : ℕ) (c : Config) (n : ℕ) (p p′ : List ℕ) (room : 1024 ≤ length p) where
+  abbrev lone : Board
+  lone = bare (cleared busy) c
 
-  pub report-all : (x : FlashAddress) {z : Answer} → 2 ≤ n → p′ ≡ laid 0 (x .0 / 256 ∷ x .0 % 256 ∷ []) p → z ≡ sentAnswer c 2 Nothing 2
-      → Replied (send (bare idle c) n (BlankReport x)) z p′ p
+  pub report-first : (x : FlashAddress) {z : Answer} → n ≡ 1 → p′ ≡ laid 0 (x .0 / 256 ∷ []) p → z ≡ sentAnswer c 9 (OneByte (x .0 % 256)) busy 1
+      → Replied (send lone n (BlankReport x)) z p′ p
+  report-first x one g h =
+      more-remains lone n (BlankReport x) 1 p p′ (rw one) (rw one (reply-laid (x .0 / 256 ∷ []) p p′ (omega arith) g)) (rw one) h
+
+  pub report-all : (x : FlashAddress) {z : Answer} → 2 ≤ n → p′ ≡ laid 0 (x .0 / 256 ∷ x .0 % 256 ∷ []) p → z ≡ sentAnswer c 2 Nothing busy 2
+      → Replied (send lone n (BlankReport x)) z p′ p
   report-all x two g h =
       let those : take n (x .0 / 256 ∷ x .0 % 256 ∷ []) ≡ x .0 / 256 ∷ x .0 % 256 ∷ [] = take-all n _ two in
-      none-remains (bare idle c) n (BlankReport x) 2 p p′ (rw those)
+      none-remains lone n (BlankReport x) 2 p p′ (rw those)
       (rw those (reply-laid (x .0 / 256 ∷ x .0 % 256 ∷ []) p p′ (omega arith) g)) (le-ltb n 2 two) h
 
-  pub byte-all : (v : ℕ) {z : Answer} → 0 < n → p′ ≡ laid 0 (v ∷ []) p → z ≡ sentAnswer c 2 Nothing 1
-      → Replied (send (bare idle c) n (OneByte v)) z p′ p
+  pub byte-all : (v : ℕ) {z : Answer} → 0 < n → p′ ≡ laid 0 (v ∷ []) p → z ≡ sentAnswer c 2 Nothing busy 1
+      → Replied (send lone n (OneByte v)) z p′ p
   byte-all v one g h =
       let those : take n (v ∷ []) ≡ v ∷ [] = take-all n _ one in
-      none-remains (bare idle c) n (OneByte v) 1 p p′ (rw those) (rw those (reply-laid (v ∷ []) p p′ (omega arith) g)) (le-ltb n 1 one) h
+      none-remains lone n (OneByte v) 1 p p′ (rw those) (rw those (reply-laid (v ∷ []) p p′ (omega arith) g)) (le-ltb n 1 one) h
 
 -- UPLOAD by what is pending
 module _ (s : Session) (c : Config) (f e : List ℕ) (n : ℕ) where
   pub sends-read : (r : Range) {z : Answer} {p p′ : List ℕ} → s .pending ≡ MemoryRead r → sendable (MemoryRead r) (level c) ≡ true
-      → Replied (send (board idle c f e) n (MemoryRead r)) z p′ p → Replied (sendPending (board s c f e) n) z p′ p
+      → Replied (send (board (cleared (s .busy)) c f e) n (MemoryRead r)) z p′ p → Replied (sendPending (board s c f e) n) z p′ p
   unfolding send
   sends-read (Flash x y) q t r = rw (q, t) r
   sends-read (Eeprom x y) q t r = rw (q, t) r
 
   pub sends-report : (x : FlashAddress) {z : Answer} {p p′ : List ℕ} → s .pending ≡ BlankReport x
-      → Replied (send (bare idle c) n (BlankReport x)) z p′ p → Replied (sendPending (board s c f e) n) z p′ p
+      → Replied (send (bare (cleared (s .busy)) c) n (BlankReport x)) z p′ p → Replied (sendPending (board s c f e) n) z p′ p
   unfolding send
   sends-report x q r = rw q r
 
   pub sends-byte : (v : ℕ) {z : Answer} {p p′ : List ℕ} → s .pending ≡ OneByte v
-      → Replied (send (bare idle c) n (OneByte v)) z p′ p → Replied (sendPending (board s c f e) n) z p′ p
+      → Replied (send (bare (cleared (s .busy)) c) n (OneByte v)) z p′ p → Replied (sendPending (board s c f e) n) z p′ p
   unfolding send
   sends-byte v q r = rw q r
 

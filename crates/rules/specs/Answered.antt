@@ -91,10 +91,10 @@ pub record Sendable (n : ℕ) (q : Pending) (f e p : List ℕ) : Type 0 where
 abbrev pub sendPending : Board → ℕ → Result
 sendPending b n = if sendable (b .session .pending) (level (b .config)) then send b n (b .session .pending) else stall b
 
--- the answer that sends k bytes
-abbrev pub sentAnswer : Config → ℕ → Pending → ℕ → Answer
-sentAnswer c state p k = record { outcome = Done; session = session state 0x00 p; config = c; length = k; pages = 0 }
+-- the answer that sends k bytes, and keeps the busy count
+abbrev pub sentAnswer : Config → ℕ → Pending → ℕ → ℕ → Answer
+sentAnswer c state p busy k = record { outcome = Done; session = session state 0x00 p busy; config = c; length = k; pages = 0 }
 
--- the answer to an accepted command: configuration after it, status, what is pending, pages
+-- the answer to an accepted command: configuration after it, status, what is pending, pages, which are the busy count too
 abbrev pub acceptedAnswer : Config → ℕ → Pending → ℕ → Answer
-acceptedAnswer c status p n = record { outcome = Done; session = session 3 status p; config = c; length = 0; pages = n }
+acceptedAnswer c status p n = record { outcome = Done; session = session 3 status p n; config = c; length = 0; pages = n }

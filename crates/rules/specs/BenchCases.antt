@@ -45,16 +45,17 @@ askState u = Ask (0xA1 ∷ 5 ∷ 0 ∷ 0 ∷ 0 ∷ 0 ∷ 1 ∷ 0 ∷ []) [] (u .
 abbrev pub askUpload : Unnamed → ℕ → Event
 askUpload u n = Ask (0xA1 ∷ 2 ∷ u .low ∷ u .high ∷ 0 ∷ 0 ∷ n % 256 ∷ n / 256 ∷ []) [] (u .room)
 
--- an answer that sends nothing and moves nothing but the session: an error status; a stall
+-- an answer that sends nothing and moves nothing but the session, by the busy count that was lent: an error status keeps it, a stall
+-- clears it
 pub record Moved : Type 0 where
   pub outcome : Outcome
   pub session : Session
 
-abbrev pub failed : ℕ → Moved
-failed k = record { outcome = Done; session = session 10 k Nothing }
+abbrev pub failed : ℕ → ℕ → Moved
+failed k lent = record { outcome = Done; session = session 10 k Nothing lent }
 
-abbrev pub stalled : Moved
-stalled = record { outcome = Stall; session = session 10 0x0F Nothing }
+abbrev pub stalled : ℕ → Moved
+stalled lent = record { outcome = Stall; session = session 10 0x0F Nothing 0 }
 
 -- what is told of a command that was taken: outcome, bytes sent, session and page count
 pub record Line : Type 0 where
@@ -66,19 +67,25 @@ pub record Line : Type 0 where
 abbrev pub line : Result → Line
 line r = record { outcome = r .outcome; sent = r .sent; session = r .session; pages = pages r }
 
--- taken with so many pages; a blank check that met a byte at x
+-- taken with so many pages, which are the busy count too; a blank check that met a byte at x
 abbrev pub taken : ℕ → Line
-taken n = record { outcome = Done; sent = []; session = session 3 0x00 Nothing; pages = n }
+taken n = record { outcome = Done; sent = []; session = session 3 0x00 Nothing n; pages = n }
 
 abbrev pub notBlank : ℕ → Line
-notBlank x = record { outcome = Done; sent = []; session = session 3 0x05 (BlankReport (flashAddress x)); pages = 0 }
+notBlank x = record { outcome = Done; sent = []; session = session 3 0x05 (BlankReport (flashAddress x)) 0; pages = 0 }
+
+-- P5 of 02: "Cases 2, 6, 7 and 11 gain this step": a board that took a command of so many pages is asked twice with GETSTATUS. The first
+-- sends these six bytes, moves to state 4 and keeps the count; the second sends 00 00 00 00 05 00, moves to 5 and clears it
+pub record Waits (b : Board) (pageCount : ℕ) (six : List ℕ) (v w : Unnamed) : Type 0 where
+  pub first : step b (askStatus v) ≡ reply (b .config) Done six (session 4 0x00 Nothing pageCount)
+  pub second : step (next b (step b (askStatus v))) (askStatus w) ≡ reply (b .config) Done (0 ∷ 0 ∷ 0 ∷ 0 ∷ 5 ∷ 0 ∷ []) (session 5 0x00 Nothing 0)
 
 -- ---- what each kind of case says
 
 -- a board at level l, sent data that begins with `head` and has `least` to `most` bytes, answers o; memories and configuration stay
-pub record Answers (l : Level) (head : List ℕ) (least most : ℕ) (o : Moved) : Type 0 where
+pub record Answers (l : Level) (head : List ℕ) (least most : ℕ) (o : ℕ → Moved) : Type 0 where
   pub answers : (b : Board) → Ready l b → (u : Unnamed) (rest : List ℕ) → least ≤ length (head ++ rest) → length (head ++ rest) ≤ most
-      → step b (download u (head ++ rest)) ≡ reply (b .config) (o .outcome) [] (o .session)
+      → let moved : Moved = o (b .session .busy) in step b (download u (head ++ rest)) ≡ reply (b .config) (moved .outcome) [] (moved .session)
 
 -- the first six bytes of a program transfer to flash
 abbrev pub programHead : ℕ → ℕ → List ℕ
@@ -88,12 +95,13 @@ abbrev pub transfer : ℕ → ℕ → List ℕ → List ℕ → List ℕ → Lis
 transfer a e filler pad new suffix = programHead a e ++ filler ++ pad ++ new ++ suffix
 
 -- a board at level 0, sent a program transfer of n bytes for the range a to e, takes it with so many pages; the flash then holds
--- the programmed bytes, and every other byte as before
-pub record Programs (a e n pageCount : ℕ) : Type 0 where
-  pub programs : (b : Board) → Ready L0 b → (u : Unnamed) (filler pad new suffix : List ℕ)
+-- the programmed bytes, and every other byte as before; and the board waits
+pub record Programs (a e n pageCount : ℕ) (six : List ℕ) : Type 0 where
+  pub programs : (b : Board) → Ready L0 b → (u v w : Unnamed) (filler pad new suffix : List ℕ)
       → length filler ≡ 26 → length new ≡ count a e → length suffix ≡ 16 → length (transfer a e filler pad new suffix) ≡ n
       → let r : Result = step b (download u (transfer a e filler pad new suffix)) in
       (line r ≡ taken pageCount) × Programmed a new (b .flash) (next b r .flash) × (next b r .eeprom ≡ b .eeprom) × (next b r .config ≡ b .config)
+      × Waits (next b r) pageCount six v w
 
 -- the first byte that is not FFh stands at x
 pub record FirstUsedAt (f : List ℕ) (x : ℕ) : Type 0 where
@@ -120,12 +128,12 @@ pub record ErasedConfig (before after : Config) : Type 0 where
   pub eb : after .eb ≡ before .eb
   pub hsb : after .hsb ≡ before .hsb
 
--- a board at level l, sent the full chip erase, takes it with so many pages and is at level m; flash FFh, EEPROM kept
-pub record Erases (l : Level) (pageCount : ℕ) (m : Level) : Type 0 where
-  pub erases : (b : Board) → Ready l b → (u : Unnamed)
+-- a board at level l, sent the full chip erase, takes it with so many pages and is at level m; flash FFh, EEPROM kept; and the board waits
+pub record Erases (l : Level) (pageCount : ℕ) (m : Level) (six : List ℕ) : Type 0 where
+  pub erases : (b : Board) → Ready l b → (u v w : Unnamed)
       → let r : Result = step b (download u (0x04 ∷ 0x00 ∷ 0xFF ∷ [])) in
       (line r ≡ taken pageCount) × (level (next b r .config) ≡ m) × (next b r .flash ≡ blankFlash) × (next b r .eeprom ≡ b .eeprom)
-      × ErasedConfig (b .config) (next b r .config)
+      × ErasedConfig (b .config) (next b r .config) × Waits (next b r) pageCount six v w
 
 -- HSB v, sent to a board at level l that has HSB old, is taken and leaves HSB new
 pub record WritesHsb (l : Level) (v old new : ℕ) : Type 0 where
@@ -137,39 +145,40 @@ pub record WritesHsb (l : Level) (v old new : ℕ) : Type 0 where
 
 pub data Case : Type 0 where
   Pad : ℕ → ℕ → Case
-  Answer : Level → List ℕ → ℕ → ℕ → Moved → Case
-  Program : ℕ → ℕ → ℕ → ℕ → Case
+  Answer : Level → List ℕ → ℕ → ℕ → (ℕ → Moved) → Case
+  Program : ℕ → ℕ → ℕ → ℕ → List ℕ → Case
   Find : Level → ℕ → List ℕ → Case
-  Erase : Level → ℕ → Level → Case
+  Erase : Level → ℕ → Level → List ℕ → Case
   Hsb : Level → ℕ → ℕ → ℕ → Case
 
 abbrev pub Holds : Case → Type 0
 Holds (Pad a x) = padding a ≡ x
 Holds (Answer l head least most o) = Answers l head least most o
-Holds (Program a e n k) = Programs a e n k
+Holds (Program a e n k six) = Programs a e n k six
 Holds (Find l x o) = Finds l x o
-Holds (Erase l k m) = Erases l k m
+Holds (Erase l k m six) = Erases l k m six
 Holds (Hsb l v old new) = WritesHsb l v old new
 
 abbrev pub All : List Case → Type 0
 All [] = Unit {0}
 All (k ∷ ks) = Holds k × All ks
 
--- the paper's twelve, in order; 7 is two. Where a case names no length, it holds for every length that the form has
+-- the paper's twelve, in order; 7 is two. Where a case names no length, it holds for every length that the form has. Where pages are
+-- burnt, the six bytes of the first GETSTATUS: 10, 90, 10 and 2,560 milliseconds, low byte first, and state 4
 abbrev pub benchTable : List Case
 benchTable =
     Pad 0x00AF 15
-    ∷ Program 0x00AF 0x00AF 64 1
+    ∷ Program 0x00AF 0x00AF 64 1 (0x00 ∷ 0x0A ∷ 0x00 ∷ 0x00 ∷ 4 ∷ 0x00 ∷ [])
     ∷ Answer L0 (0x01 ∷ 0x00 ∷ 0x00 ∷ 0xAF ∷ 0x00 ∷ 0xAF ∷ []) 65 65 stalled
     ∷ Answer L1 (0x01 ∷ 0x00 ∷ 0x00 ∷ 0xAF ∷ 0x00 ∷ 0xAF ∷ []) 64 64 (failed 0x03)
     ∷ Answer L0 (0x01 ∷ 0x00 ∷ 0x00 ∷ 0x00 ∷ 0x04 ∷ 0x00 ∷ []) 6 1103 (failed 0x08)
-    ∷ Program 0x007F 0x047E 1103 9
-    ∷ Program 0x7FFF 0x7FFF 80 1
+    ∷ Program 0x007F 0x047E 1103 9 (0x00 ∷ 0x5A ∷ 0x00 ∷ 0x00 ∷ 4 ∷ 0x00 ∷ [])
+    ∷ Program 0x7FFF 0x7FFF 80 1 (0x00 ∷ 0x0A ∷ 0x00 ∷ 0x00 ∷ 4 ∷ 0x00 ∷ [])
     ∷ Answer L0 (0x01 ∷ 0x00 ∷ 0x80 ∷ 0x00 ∷ 0x80 ∷ 0x00 ∷ []) 6 1103 (failed 0x08)
     ∷ Answer L2 (0x03 ∷ 0x00 ∷ []) 6 6 (failed 0x0B)
     ∷ Find L2 0x1234 (0x12 ∷ 0x34 ∷ [])
     ∷ Answer L1 (0x04 ∷ 0x01 ∷ 0x05 ∷ 0xFE ∷ []) 4 4 (failed 0x03)
-    ∷ Erase L2 256 L0
+    ∷ Erase L2 256 L0 (0x00 ∷ 0x00 ∷ 0x0A ∷ 0x00 ∷ 4 ∷ 0x00 ∷ [])
     ∷ Hsb L0 0x4F 0xBB 0x4B
     ∷ []
 

@@ -4,6 +4,7 @@ use mathlib.Core.List.{List, [], _∷_}
 use mathlib.Core.Option.{Option, none, some}
 use Prim.Native.Nat.{ℕ}
 use lib.Dec.{eqb}
+use lib.ListN.{length}
 use Rattle.words.specs.Words.{if_then_else_}
 use Rattle.memory.specs.Memory.{flashAddress}
 use Rattle.memory.specs.Pages.{Store, programStores, blockStores, chipStores}
@@ -25,13 +26,13 @@ use Rattle.rules.specs.Levels.{levelStatus}
 use Rattle.rules.specs.Result.{Board, Patch, Result, reply, Done, Stall}
 
 -- "Stall: state 10, status 0Fh, nothing pending. In state 10 the status there already stays. Nothing is sent; memory and
--- configuration stay."
+-- configuration stay."; P5 of 02: "The count is cleared by .. every stall"
 unfoldable pub stall : Board → Result
-stall b = reply (b .config) Stall [] (session 10 (if eqb (b .session .state) 10 then b .session .status else stallStatus) Nothing)
+stall b = reply (b .config) Stall [] (session 10 (if eqb (b .session .state) 10 then b .session .status else stallStatus) Nothing 0)
 
--- "A status above is set with state 10 and nothing pending, and nothing else moves."
+-- "A status above is set with state 10 and nothing pending, and nothing else moves.": the busy count stays
 abbrev pub setStatus : Board → ℕ → Result
-setStatus b status = reply (b .config) Done [] (session 10 status Nothing)
+setStatus b status = reply (b .config) Done [] (session 10 status Nothing (b .session .busy))
 
 -- ---- an accepted command
 
@@ -85,12 +86,13 @@ perform b ReadVersion d = leaves (b .config) (OneByte version)
 perform b (ReadByte i) d = leaves (b .config) (OneByte (configByte i (b .config)))
 perform b ReadHsb d = leaves (b .config) (OneByte (b .config .hsb))
 
--- "An accepted command sets status 00h, state 3 and what is pending"
+-- "An accepted command sets status 00h, state 3 and what is pending"; P5 of 02: "An accepted command, a blank check that gives 05h too,
+-- sets it to its page count.", which is how many pages it stores
 abbrev pub accept : Command → Effect → Result
 accept k x = record {
   outcome = Done;
   sent = [];
-  session = session 3 (x .status) (x .pending);
+  session = session 3 (x .status) (x .pending) (length (x .stored));
   config = x .config;
   stored = x .stored;
   patched = x .patched;

@@ -136,12 +136,13 @@ RefusalsGiven = (b : Board) (setup d : List ℕ) (n : ℕ)
 
 -- ---- what is accepted
 
--- an accepted command is what the reader reads, the level allows it, and the answer is done with state 3
+-- an accepted command is what the reader reads, the level allows it, and the answer is done with state 3 and the pages to wait for
 pub record AcceptedRightly (b : Board) (d : List ℕ) (k : Command) (r : Result) : Type 0 where
   pub read : readCommand d ≡ Taken k (partsOf k d)
   pub allowed : levelStatus k (level (b .config)) ≡ 0x00
   pub done : r .outcome ≡ Done
   pub in-state-3 : r .session .state ≡ 3
+  pub busy-set : r .session .busy ≡ pages r
 
 abbrev pub AcceptedOnly : Type 0
 AcceptedOnly = (b : Board) (setup d : List ℕ) (n : ℕ) (k : Command)

@@ -21,7 +21,8 @@ use Rattle.rules.specs.Answered.{Sizes}
 use Rattle.rules.specs.BenchCases.{Unnamed, download, askStatus}
 
 -- two boards at level 2 with one session, one configuration, memories of one size, and the same blank flash bytes. P1 of 02: "two
--- boards compared still hold the same SSB", the byte itself and not only its level
+-- boards compared still hold the same SSB", the byte itself and not only its level. P5 of 02: "demand 3 reads the busy count as part of
+-- the session": it is equal at the start, and every report shows it
 pub record Alike (b b′ : Board) : Type 0 where
   pub at-level-2 : level (b .config) ≡ L2
   pub same-session : b .session ≡ b′ .session

@@ -9,5 +9,6 @@ pub mod Step
 pub mod Answered
 pub mod BenchCases
 pub mod Effects
+pub mod Busy
 pub mod LevelTwo
 pub mod Judged

@@ -31,15 +31,21 @@ badPending (BlankReport a) = pastFlash a
 badPending (OneByte v) = false
 badPending (Start k a) = pastFlash a
 
--- 6: "state is none of 0, 2, 3, 5, 6, 9, 10, or status is above 0Fh, or .."
+-- 6: "state is none of 0, 2, 3, 5, 6, 9, 10"; P5 of 02: "6 now admits state 4"
 abbrev pub states : List ℕ
-states = 0 ∷ 2 ∷ 3 ∷ 5 ∷ 6 ∷ 9 ∷ 10 ∷ []
+states = 0 ∷ 2 ∷ 3 ∷ 4 ∷ 5 ∷ 6 ∷ 9 ∷ 10 ∷ []
 
 abbrev pub knownState : ℕ → Bool
 knownState state = among state states
 
+-- P5 of 02: "and refuses a busy count above 256"
+abbrev pub mostBusy : ℕ
+mostBusy = 256
+
+-- 6: "state is none of .., or status is above 0Fh, or a pending memory read .., or a pending blank report or start address .."; the
+-- busy count last
 abbrev pub badSession : Session → Bool
-badSession s = not (knownState (s .state)) || ltb 0x0F (s .status) || badPending (s .pending)
+badSession s = not (knownState (s .state)) || ltb 0x0F (s .status) || badPending (s .pending) || ltb mostBusy (s .busy)
 
 -- "Checked in this order; the first that applies is given, and none without its cause.": the number, and 0 where none applies;
 -- n the size of the reply buffer

@@ -1,7 +1,7 @@
 -- The paper's "Requests". Assumes nothing: these are definitions.
 use mathlib.Core.Bool.{Bool, true, false, _&&_}
-use mathlib.Core.List.{List, [], _∷_}
-use Prim.Native.Nat.{ℕ, _+_, _/_, _%_}
+use mathlib.Core.List.{List, [], _∷_, _++_}
+use Prim.Native.Nat.{ℕ, _+_, _*_, _/_, _%_}
 use lib.Dec.{eqb, ltb}
 use lib.ListN.{take}
 use Rattle.words.specs.Words.{if_then_else_, among, highFirst, lowFirst, part}
@@ -12,7 +12,7 @@ use Rattle.memory.specs.declared.address.Range.the-variants.{Flash, Eeprom}
 use Rattle.config.specs.declared.level.Level.{Level}
 use Rattle.config.specs.declared.level.Level.the-variants.{L0, L1, L2}
 use Rattle.command.specs.Form.{form}
-use Rattle.rules.specs.Session.{session, idle, Pending, Nothing, MemoryRead, BlankReport, OneByte, Start}
+use Rattle.rules.specs.Session.{Session, session, cleared, Pending, Nothing, MemoryRead, BlankReport, OneByte, Start}
 use Rattle.rules.specs.Result.{Board, Result, reply, Outcome, Done, Started}
 use Rattle.rules.specs.Commands.{stall, obeyForm}
 pub use Rattle.rules.specs.declared.request.Request.{Request}
@@ -52,35 +52,59 @@ requestOf setup = if eqb (wIndex setup) 0 then requestRow (highFirst setup 0) se
 
 -- ---- GETSTATUS, GETSTATE, CLRSTATUS, ABORT
 
--- "State 3 becomes 5, 6 becomes 2, others stay"
-abbrev pub entered : ℕ → ℕ
-entered state = if eqb state 3 then 5 else if eqb state 6 then 2 else state
+-- P5 of 02: "With a count above 0, the first GETSTATUS in state 3": the board burns pages, and this is the first to ask
+abbrev pub burning : Session → Bool
+burning s = eqb (s .state) 3 && ltb 0 (s .busy)
 
--- "GETSTATUS: status, three zero bytes, the state entered, zero. .. so do status and what is pending."
+-- "State 3 becomes 5, 6 becomes 2, others stay"; P5 of 02: "the next one reports 5", which is the one in state 4
+abbrev pub settled : ℕ → ℕ
+settled state = if eqb state 3 then 5 else if eqb state 4 then 5 else if eqb state 6 then 2 else state
+
+-- "the state entered"; P5 of 02: "the first GETSTATUS in state 3 reports state 4 .. and moves there"
+abbrev pub entered : Session → ℕ
+entered s = if burning s then 4 else settled (s .state)
+
+-- P5 of 02: "with ten milliseconds a page .. ; the next one reports 5 with timeout zero"; elsewhere 01's "three zero bytes"
+abbrev pub timeout : Session → ℕ
+timeout s = if burning s then 10 * s .busy else 0
+
+-- P5 of 02: "in its three timeout bytes, low byte first"
+abbrev pub timeoutBytes : ℕ → List ℕ
+timeoutBytes t = t % 256 ∷ t / 256 % 256 ∷ t / 65536 % 256 ∷ []
+
+-- P5 of 02: "The count is cleared by that second GETSTATUS", the one in state 4, whatever the count was
+abbrev pub busyAfterStatus : Session → ℕ
+busyAfterStatus s = if eqb (s .state) 4 then 0 else s .busy
+
+-- "GETSTATUS: status, three zero bytes, the state entered, zero. .. so do status and what is pending.", the three bytes being the timeout's
 abbrev pub getStatus : Board → Result
 getStatus b =
-    reply (b .config) Done (b .session .status ∷ 0 ∷ 0 ∷ 0 ∷ entered (b .session .state) ∷ 0 ∷ [])
-    (session (entered (b .session .state)) (b .session .status) (b .session .pending))
+    let s : Session = b .session in
+    reply (b .config) Done (s .status ∷ timeoutBytes (timeout s) ++ entered s ∷ 0 ∷ []) (session (entered s) (s .status) (s .pending) (busyAfterStatus s))
 
 -- "GETSTATE: one byte, the state. Nothing moves."
 abbrev pub getState : Board → Result
 getState b = reply (b .config) Done (b .session .state ∷ []) (b .session)
 
--- "CLRSTATUS in 10, ABORT in 2, 3, 5, 6, 9: state 2, status 00h, nothing pending. Elsewhere they stall."
-abbrev pub clearIn : List ℕ → Board → Result
-clearIn states b = if among (b .session .state) states then reply (b .config) Done [] idle else stall b
+-- "CLRSTATUS in 10, ABORT in 2, 3, 5, 6, 9: state 2, status 00h, nothing pending. Elsewhere they stall.", by the busy count that each
+-- leaves
+abbrev pub clearIn : List ℕ → ℕ → Board → Result
+clearIn states busy b = if among (b .session .state) states then reply (b .config) Done [] (cleared busy) else stall b
 
 abbrev pub clrStates : List ℕ
 clrStates = 10 ∷ []
 
+-- CLRSTATUS is not in P5's list of what clears the busy count: it stays
 abbrev pub clrStatus : Board → Result
-clrStatus b = clearIn clrStates b
+clrStatus b = clearIn clrStates (b .session .busy) b
 
+-- P5 of 02: "In state 4 GETSTATE, GETSTATUS and ABORT work and the rest stalls."
 abbrev pub abortStates : List ℕ
-abortStates = 2 ∷ 3 ∷ 5 ∷ 6 ∷ 9 ∷ []
+abortStates = 2 ∷ 3 ∷ 4 ∷ 5 ∷ 6 ∷ 9 ∷ []
 
+-- P5 of 02: "The count is cleared by .. ABORT"
 abbrev pub abort : Board → Result
-abort b = clearIn abortStates b
+abort b = clearIn abortStates 0 b
 
 -- ---- DNLOAD
 
@@ -100,19 +124,19 @@ startOf (BlankReport a) = Done
 startOf (OneByte v) = Done
 startOf (Start k a) = Started k a
 
--- "else in 5 state 6, nothing pending .. ; else stall."
+-- "else in 5 state 6, nothing pending .. ; else stall."; the busy count stays
 unfoldable pub endPlain : Board → Result
-endPlain b = if eqb (b .session .state) 5 then reply (b .config) Done [] (session 6 (b .session .status) Nothing) else stall b
+endPlain b = if eqb (b .session .state) 5 then reply (b .config) Done [] (session 6 (b .session .status) Nothing (b .session .busy)) else stall b
 
 abbrev pub startStates : List ℕ
 startStates = 3 ∷ 5 ∷ []
 
 -- "wLength 0: in 3 or 5 with a start pending, the answer is start with its kind and address, state 0, nothing pending; else in 5
--- state 6, nothing pending (both keep the status); else stall."
+-- state 6, nothing pending (both keep the status); else stall."; the busy count stays
 unfoldable pub endDownload : Board → Result
 endDownload b =
     if among (b .session .state) startStates && startPending (b .session .pending)
-    then reply (b .config) (startOf (b .session .pending)) [] (session 0 (b .session .status) Nothing) else
+    then reply (b .config) (startOf (b .session .pending)) [] (session 0 (b .session .status) Nothing (b .session .busy)) else
     endPlain b
 
 -- "over 1,103"
@@ -179,11 +203,12 @@ pendingAfter n (BlankReport a) = OneByte (a .0 % 256)
 pendingAfter n (OneByte v) = Nothing
 pendingAfter n (Start k a) = Nothing
 
--- "the smaller of wLength and the rest. Status 00h. If more remains, state 9 and the rest pending .. ; else state 2 and nothing."
+-- "the smaller of wLength and the rest. Status 00h. If more remains, state 9 and the rest pending .. ; else state 2 and nothing.";
+-- the busy count stays
 unfoldable pub send : Board → ℕ → Pending → Result
 send b n p =
     reply (b .config) Done (take n (pendingBytes b p))
-    (if ltb n (pendingCount p) then session 9 0x00 (pendingAfter n p) else session 2 0x00 Nothing)
+    (if ltb n (pendingCount p) then session 9 0x00 (pendingAfter n p) (b .session .busy) else session 2 0x00 Nothing (b .session .busy))
 
 abbrev pub uploadStates : List ℕ
 uploadStates = 5 ∷ 9 ∷ []

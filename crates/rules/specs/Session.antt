@@ -6,13 +6,17 @@ pub use Rattle.rules.specs.declared.session.Pending.{Pending}
 pub use Rattle.rules.specs.declared.session.Pending.the-variants.{Nothing, MemoryRead, BlankReport, OneByte, Start}
 pub use Rattle.rules.specs.declared.session.Session.{Session}
 
--- "Session record: state, status, and what is pending"
-abbrev pub session : ℕ → ℕ → Pending → Session
-session state status p = record { state = state; status = status; pending = p }
+-- "Session record: state, status, and what is pending"; P5 of 02: "The session record gets a busy page count."
+abbrev pub session : ℕ → ℕ → Pending → ℕ → Session
+session state status p busy = record { state = state; status = status; pending = p; busy = busy }
 
--- "state 2, status 00h, nothing pending": after power-up, CLRSTATUS and ABORT
+-- "state 2, status 00h, nothing pending": CLRSTATUS, ABORT and power-up, by the busy count that they leave
+abbrev pub cleared : ℕ → Session
+cleared busy = session 2 0x00 Nothing busy
+
+-- the same with no page to wait for: after ABORT and power-up
 abbrev pub idle : Session
-idle = session 2 0x00 Nothing
+idle = cleared 0
 
 -- "start by reset, or at address": 04h, 03h, 00h and 04h, 03h, 01h
 abbrev pub startNumber : StartKind → ℕ

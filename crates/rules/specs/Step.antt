@@ -24,7 +24,7 @@ ask b setup d n =
     if eqb (refusal b setup d n) 0 then respond b (requestOf setup) d else
     reply (b .config) (Refused (refusal b setup d n)) [] (b .session)
 
--- "Power-up sets state 2, status 00h, nothing pending, and keeps the rest."
+-- "Power-up sets state 2, status 00h, nothing pending, and keeps the rest."; P5 of 02: "The count is cleared by .. power-up"
 abbrev pub powerUp : Board → Result
 powerUp b = reply (b .config) Done [] idle
 

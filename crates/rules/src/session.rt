@@ -17,8 +17,10 @@ pub enum Pending {
     Start(StartKind, FlashAddress),
 }
 
+// P5 of 02: "The session record gets a busy page count."
 pub struct Session {
     pub state: u8,
     pub status: u8,
     pub pending: Pending,
+    pub busy: u16,
 }

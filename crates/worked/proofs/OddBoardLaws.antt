@@ -28,7 +28,7 @@ module _ (f e p : List ℕ) (r : Room f e p) where
   unfolding ask refusal requestOf respond dnload form obey
   refuses-write = rw (r .sizes .flash-size, r .sizes .eeprom-size, room)
 
-  pub stalls-upload : answer (ask (board (session 5 0x00 (MemoryRead (Flash (flashAddress 0x0000) (flashAddress 0x0000)))) oddConfig f e)
+  pub stalls-upload : answer (ask (board (session 5 0x00 (MemoryRead (Flash (flashAddress 0x0000) (flashAddress 0x0000))) 0) oddConfig f e)
       (0xA1 ∷ 2 ∷ 0 ∷ 0 ∷ 0 ∷ 0 ∷ 1 ∷ 0 ∷ []) [] (length p)) ≡ uploadStalled
   unfolding ask refusal requestOf respond upload stall
   stalls-upload = rw (r .sizes .flash-size, r .sizes .eeprom-size, room)

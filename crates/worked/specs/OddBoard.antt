@@ -28,8 +28,8 @@ pub record Asked (s : Session) (setup d : List ℕ) (a : Answer) : Type 0 where
 
 -- a write of FCh to SSB: the cell of "write SSB" at level 2 is 03h
 abbrev pub writeRefused : Answer
-writeRefused = answer (reply oddConfig Done [] (session 10 0x03 Nothing))
+writeRefused = answer (reply oddConfig Done [] (session 10 0x03 Nothing 0))
 
 -- UPLOAD where a read of flash is pending: "A pending start can't be sent, nor a memory read at level 2."
 abbrev pub uploadStalled : Answer
-uploadStalled = answer (reply oddConfig Stall [] (session 10 0x0F Nothing))
+uploadStalled = answer (reply oddConfig Stall [] (session 10 0x0F Nothing 0))

@@ -13,12 +13,14 @@ const IDLE: Session = Session {
     state: 2,
     status: 0x00,
     pending: Pending::Nothing,
+    busy: 0,
 };
 
 const PENDING_READ: Session = Session {
     state: 5,
     status: 0x00,
     pending: Pending::MemoryRead(Range::Flash(FlashAddress(0x0000), FlashAddress(0x0000))),
+    busy: 0,
 };
 
 fn odd() -> Config

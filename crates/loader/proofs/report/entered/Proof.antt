@@ -1,17 +1,25 @@
--- `loader::report::entered` meets its contract.
+-- `loader::report::entered` meets its contract: state 4 while the board burns, else by the state.
 -- Assumes nothing.
-use borrow.Author.Tests.{ne-eqb}
+use mathlib.Core.Path.{_≡_, sym, _∙_}
+use mathlib.Core.Bool.{true, false}
+use Rattle.rules.specs.Requests.{burning, settled, entered}
+use Rattle.rules.specs.declared.session.Session.{Session}
+use borrow.Author.Needs.{needs}
 use Rattle.loader.proofs.report.entered.Statement.{statement}
 use Rattle.loader.proofs.report.entered.Tie as tie
 
+module _ (s : Session) where
+  waits : burning s ≡ true → 4 ≡ entered s
+  waits q = rw q
+
+  goes-on : {n : _} → burning s ≡ false → n ≡ settled (s .state) → n ≡ entered s
+  goes-on q h = rw q h
+
 returns : tie.Need-returns
-returns c = simp (c .match .keys1)
+returns c = waits (c .before .before .args .session) (sym (c .before .burning .ensures) ∙ c .if1 .taken)
 
 returns-2 : tie.Need-returns-2
-returns-2 c = simp (c .match .keys2)
-
-returns-3 : tie.Need-returns-3
-returns-3 c = simp (ne-eqb _ _ (c .match .rest .0 .1), ne-eqb _ _ (c .match .rest .1))
+returns-2 c = goes-on (c .before .before .before .args .session) (sym (c .before .before .burning .ensures) ∙ c .before .if1 .left) (c .settled .ensures)
 
 pub entered-spec : {M : Type 1} → statement M
-entered-spec = tie.close (tie.spec returns returns-2 returns-3)
+entered-spec = tie.close (tie.spec (λ c κs. search needs) returns (λ c κs. search needs) returns-2)

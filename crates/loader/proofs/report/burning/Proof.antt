@@ -1,0 +1,14 @@
+-- `loader::report::burning` meets its contract.
+-- Assumes nothing.
+use borrow.Author.Tests.{eq-eqb, ne-eqb}
+use Rattle.loader.proofs.report.burning.Statement.{statement}
+use Rattle.loader.proofs.report.burning.Tie as tie
+
+returns : tie.Need-returns
+returns c = simp (ne-eqb _ _ (c .if1 .taken))
+
+returns-2 : tie.Need-returns-2
+returns-2 c = simp (eq-eqb _ _ (c .before .if1 .left))
+
+pub burning-spec : {M : Type 1} → statement M
+burning-spec = tie.close (tie.spec returns returns-2)
