@@ -1,13 +1,14 @@
 """A request of a job with the bench program's line for it: what was asked, what came of it, and a sentence where something went
-wrong."""
+wrong or where the board has to be waited for."""
 import re
 
 from commands import COMMAND_SIZE, FORM_SIZE, MOST, SUFFIX_SIZE, command, counted, hex_of
 from names import ASKED, BAD_ADDRESS, BUSY, DOWNLOADING, ENDED, ERROR, FIRST, FIXED, IDLE, MEMORIES
-from names import NO_READ, NO_WRITE, NOT_BLANK, REFUSALS, REQUESTS, STATES, STATUSES, SYNC, UPLOADING
+from names import NO_READ, NO_WRITE, NOT_BLANK, PAGE_TIME, REFUSALS, REQUESTS, STATES, STATUSES, SYNC, UPLOADING
 from readable import Fault
 
 LONGEST_DNLOAD = 1103
+STATUS_SIZE = 6  # bytes that GETSTATUS sends
 LINE = re.compile(r"(\d+) (done|stall|start|ref\d+) (\d+) ([0-9A-F]{2}) (\d+) ([0-9A-F]+|-)")
 HEAD = f"{'no':>3}  {'request':10} {'answer':7}{'state':20}{'status':19}{'pages':7}what was asked"
 
@@ -44,6 +45,16 @@ class Request:
     def __str__(self):
         state, status = f"{self.state:>2} {STATES.get(self.state, '?')}", f"{self.status:02X} {STATUSES.get(self.status, '?')}"
         return f"{self.number:>3}  {self.name:10} {self.answer:7}{state:20}{status:19}{self.pages:>5}  {self.asked()}"
+
+
+def burning(request):
+    """A sentence where a GETSTATUS reports state 4. How long to wait stands in its reply: three bytes behind the status, low byte first."""
+    if (request.name, request.answer, request.state) != ("GETSTATUS", "done", BUSY):
+        return None
+    if len(request.reply) != STATUS_SIZE or request.reply[4] != BUSY:
+        raise Fault(f"after request {request.number} the state is {BUSY}, and its reply {hex_of(request.reply) or '-'} says another")
+    wait = int.from_bytes(request.reply[1:4], "little")
+    return f"The board is still burning {counted(wait // PAGE_TIME, 'page')}: wait {wait:,} ms, then ask GETSTATUS again."
 
 
 # ---- what went wrong with a request
@@ -93,6 +104,8 @@ def stall_cause(request):
         return "the loader never takes a DETACH"
     if request.index or (request.name in FIXED and (request.value, request.length) != FIXED[request.name]):
         return f"{request.name} needs wIndex 0" + (" and wValue {}, wLength {}".format(*FIXED[request.name]) if request.name in FIXED else "")
+    if request.before == BUSY:
+        return FIRST[BUSY]
     if request.name == "DNLOAD":
         return download_stall(request)
     if request.name == "UPLOAD":
@@ -105,7 +118,7 @@ def download_stall(request):
     if request.length > LONGEST_DNLOAD:
         return f"a DNLOAD has at most {LONGEST_DNLOAD:,} bytes, and this has {request.length:,}"
     if not asked:
-        return FIRST[request.before] if request.before in (SYNC, BUSY, ENDED, UPLOADING) else "there is no download to end"
+        return FIRST[request.before] if request.before in (SYNC, ENDED, UPLOADING) else "there is no download to end"
     if request.before not in (IDLE, DOWNLOADING):
         return f"state {request.before} takes no command; {FIRST[request.before]}"
     if asked.kind != "program":

@@ -1,5 +1,5 @@
-"""Names and sentences of document 01 and of the DFU papers behind it, in one place: requests, states, statuses, levels, refusals
-and configuration bytes."""
+"""Names and sentences of documents 01 and 02 and of the DFU papers behind them, in one place: requests, states, statuses, levels,
+refusals and configuration bytes."""
 
 # bmRequestType and bRequest, and for a request that is always the same its wValue and wLength.
 REQUESTS = {(0x21, 0): "DETACH", (0x21, 1): "DNLOAD", (0x21, 4): "CLRSTATUS", (0x21, 6): "ABORT"}
@@ -16,11 +16,12 @@ ASKED = {
 IDLE, SYNC, BUSY, DOWNLOADING, ENDED, UPLOADING, ERROR = 2, 3, 4, 5, 6, 9, 10
 STATES = {0: "appIDLE", 2: "dfuIDLE", 3: "dfuDNLOAD-SYNC", 4: "dfuDNBUSY", 5: "dfuDNLOAD-IDLE", 6: "dfuMANIFEST-SYNC"}
 STATES |= {9: "dfuUPLOAD-IDLE", 10: "dfuERROR"}
+PAGE_TIME = 10  # milliseconds for which a board burns a page, by P5 of document 02
 # What has to come first where a state does not take a request.
 FIRST = {
     2: "send a command with DNLOAD and ask GETSTATUS first",
     3: "ask GETSTATUS first",
-    4: "ask GETSTATUS again first",
+    4: "the board is still burning; ask GETSTATUS again first",
     6: "ask GETSTATUS first",
     9: "fetch the rest with UPLOAD, or drop it with ABORT, first",
     10: "an error waits, and CLRSTATUS has to come first",

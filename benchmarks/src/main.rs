@@ -23,12 +23,13 @@ const BLOCK: usize = 1_024;
 const LONGEST: usize = 1_103;
 const JOB: usize = 16_384;
 
-const NAMES: [&str; 9] = [
-    "reload 32 KiB in 32 transfers",
+const NAMES: [&str; 10] = [
+    "reload 32 KiB in 32 transfers, two GETSTATUS after each",
     "read 32 KiB back",
     "blank check, blank board",
     "blank check, last byte used",
     "1,000 GETSTATUS",
+    "1,000 GETSTATUS in state 3, nine pages to wait for",
     "write a command of 1,103 bytes",
     "read a command of 1,103 bytes",
     "check a job of 16 KiB, 1,489 requests",
@@ -40,9 +41,13 @@ trait Program {
     fn new() -> Self;
     /// Back to state 2, as a power-up does.
     fn power_up(&mut self);
+    /// State 3 with so many pages to wait for, as a program transfer leaves it.
+    fn wait_for(&mut self, pages: u16);
     fn use_last_byte(&mut self);
     /// One request; how many bytes are sent.
     fn ask(&mut self, setup: &[u8], data: &[u8]) -> usize;
+    /// The bytes that were sent, and what follows them.
+    fn reply(&self) -> &[u8];
     fn write(start: u16, end: u16, body: &[u8], suffix: &[u8], room: &mut [u8]) -> usize;
     /// Where the suffix begins.
     fn read(payload: &[u8]) -> usize;
@@ -52,6 +57,7 @@ trait Program {
 
 struct Ours {
     session: u64,
+    busy: u16,
     config: u64,
     flash: Vec<u8>,
     eeprom: Vec<u8>,
@@ -62,11 +68,17 @@ impl Program for Ours {
     fn new() -> Ours {
         // BSB, the first byte, is the lowest of the number, and HSB the highest.
         let config = u64::from_le_bytes([0xFF, 0xFC, 0xFE, 0xFF, 0xFF, 0xFF, 0xFF, 0xBB]);
-        Ours { session: exports::power_up(), config, flash: vec![0xFF; FLASH], eeprom: vec![0xFF; EEPROM], reply: vec![0; BLOCK] }
+        let (session, busy) = exports::power_up();
+        Ours { session, busy, config, flash: vec![0xFF; FLASH], eeprom: vec![0xFF; EEPROM], reply: vec![0; BLOCK] }
     }
 
     fn power_up(&mut self) {
-        self.session = exports::power_up();
+        (self.session, self.busy) = exports::power_up();
+    }
+
+    fn wait_for(&mut self, pages: u16) {
+        // The state is the lowest byte of the number; status and what is pending are 0.
+        (self.session, self.busy) = (3, pages);
     }
 
     fn use_last_byte(&mut self) {
@@ -74,8 +86,12 @@ impl Program for Ours {
     }
 
     fn ask(&mut self, setup: &[u8], data: &[u8]) -> usize {
-        let Ours { session, config, flash, eeprom, reply } = self;
-        exports::step(session, config, setup, data, flash, eeprom, reply).1
+        let Ours { session, busy, config, flash, eeprom, reply } = self;
+        exports::step(session, busy, config, setup, data, flash, eeprom, reply).1
+    }
+
+    fn reply(&self) -> &[u8] {
+        &self.reply
     }
 
     fn write(start: u16, end: u16, body: &[u8], suffix: &[u8], room: &mut [u8]) -> usize {
@@ -113,6 +129,10 @@ impl Program for Second {
         second::power_up(&mut self.session);
     }
 
+    fn wait_for(&mut self, pages: u16) {
+        self.session = second::Session { state: 3, busy: pages, ..second::Session::POWERED };
+    }
+
     fn use_last_byte(&mut self) {
         self.flash[FLASH - 1] = 0;
     }
@@ -120,6 +140,10 @@ impl Program for Second {
     fn ask(&mut self, setup: &[u8], data: &[u8]) -> usize {
         let Second { session, config, flash, eeprom, reply } = self;
         second::step(session, config, setup, data, flash, eeprom, reply).length
+    }
+
+    fn reply(&self) -> &[u8] {
+        &self.reply
     }
 
     fn write(start: u16, end: u16, body: &[u8], suffix: &[u8], room: &mut [u8]) -> usize {
@@ -145,6 +169,7 @@ impl Program for Second {
 /// The second program behind the same numbers as ours: session, configuration, outcome and command are packed and unpacked.
 struct Packed {
     session: u64,
+    busy: u16,
     config: u64,
     flash: Vec<u8>,
     eeprom: Vec<u8>,
@@ -153,12 +178,16 @@ struct Packed {
 
 impl Program for Packed {
     fn new() -> Packed {
-        let Ours { session, config, flash, eeprom, reply } = Ours::new();
-        Packed { session, config, flash, eeprom, reply }
+        let Ours { session, busy, config, flash, eeprom, reply } = Ours::new();
+        Packed { session, busy, config, flash, eeprom, reply }
     }
 
     fn power_up(&mut self) {
-        self.session = layout::pack_session(&second::Session::POWERED);
+        (self.session, self.busy) = (layout::pack_session(&second::Session::POWERED), second::Session::POWERED.busy);
+    }
+
+    fn wait_for(&mut self, pages: u16) {
+        (self.session, self.busy) = (3, pages);
     }
 
     fn use_last_byte(&mut self) {
@@ -166,12 +195,16 @@ impl Program for Packed {
     }
 
     fn ask(&mut self, setup: &[u8], data: &[u8]) -> usize {
-        let Packed { session: packed_session, config: packed_config, flash, eeprom, reply } = self;
-        let (mut session, mut config) = (layout::session(*packed_session), layout::config(*packed_config));
+        let Packed { session: packed_session, busy, config: packed_config, flash, eeprom, reply } = self;
+        let (mut session, mut config) = (layout::session(*packed_session, *busy), layout::config(*packed_config));
         let answer = second::step(&mut session, &mut config, setup, data, flash, eeprom, reply);
-        (*packed_session, *packed_config) = (layout::pack_session(&session), layout::pack_config(&config));
+        (*packed_session, *busy, *packed_config) = (layout::pack_session(&session), session.busy, layout::pack_config(&config));
         black_box(layout::pack_outcome(&answer.outcome));
         answer.length
+    }
+
+    fn reply(&self) -> &[u8] {
+        &self.reply
     }
 
     fn write(start: u16, end: u16, body: &[u8], suffix: &[u8], room: &mut [u8]) -> usize {
@@ -265,8 +298,12 @@ impl Work {
             0 => {
                 for (setup, data) in &self.transfers {
                     board.ask(black_box(setup), black_box(data));
+                    // The first answers state 4 and how long to wait, the second state 5.
+                    board.ask(&GET_STATUS, &[]);
                     assert_eq!(board.ask(&GET_STATUS, &[]), 6);
                 }
+                // A stall would stay.
+                assert_eq!(board.reply()[..6], [0, 0, 0, 0, 5, 0]);
             }
             1 => {
                 board.power_up();
@@ -287,9 +324,16 @@ impl Work {
                     assert_eq!(board.ask(black_box(&GET_STATUS), &[]), 6);
                 }
             }
-            5 => assert_eq!(P::write(0x1F, 0x41E, black_box(&self.body), &[0; 16], black_box(&mut self.room)), LONGEST),
-            6 => assert_eq!(P::read(black_box(&self.longest)), LONGEST - 16),
-            7 => assert_eq!(P::check(black_box(&self.flat_job)), JOB / 11),
+            5 => {
+                for _ in 0..1_000 {
+                    board.wait_for(black_box(9));
+                    assert_eq!(board.ask(black_box(&GET_STATUS), &[]), 6);
+                }
+                assert_eq!(board.reply()[..6], [0, 90, 0, 0, 4, 0]);
+            }
+            6 => assert_eq!(P::write(0x1F, 0x41E, black_box(&self.body), &[0; 16], black_box(&mut self.room)), LONGEST),
+            7 => assert_eq!(P::read(black_box(&self.longest)), LONGEST - 16),
+            8 => assert_eq!(P::check(black_box(&self.flat_job)), JOB / 11),
             _ => assert_eq!(P::check(black_box(&self.grouped_job)), JOB / 23),
         }
     }
@@ -333,7 +377,7 @@ impl Lines {
 
     /// The least of several goes, in microseconds: ours, then the second's.
     fn time(&mut self, line: usize) -> (f64, f64) {
-        let count = if line >= 4 && line <= 6 { 200 } else { 20 };
+        let count = if line >= 4 && line <= 7 { 200 } else { 20 };
         (0..15).fold((f64::MAX, f64::MAX), |(ours, second), _| {
             (ours.min(self.repeat(line, "ours", count)), second.min(self.repeat(line, "second", count)))
         })

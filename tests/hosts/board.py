@@ -4,27 +4,32 @@ import struct
 
 FLASH_SIZE, EEPROM_SIZE = 32768, 1024
 CONFIG = ("BSB", "SBV", "P1_CF", "P3_CF", "P4_CF", "SSB", "EB", "HSB")
-LAYOUT = struct.Struct(f"<BB6x8s{FLASH_SIZE}s{EEPROM_SIZE}s")
+LAYOUT = struct.Struct(f"<BBH4x8sH6x{FLASH_SIZE}s{EEPROM_SIZE}s")
 REQUESTS = {"2100": "DETACH", "2101": "DNLOAD", "A102": "UPLOAD", "A103": "GETSTATUS", "2104": "CLRSTATUS", "A105": "GETSTATE", "2106": "ABORT"}
 RECORD_SIZE, RECORD_END = 16, ":00000001FF\n"
 
 
 @dataclasses.dataclass
 class Board:
-    """State and status, the eight configuration bytes by name, and the memories by name. What is pending is not kept."""
+    """State and status, the kind of what is pending (0 is nothing), the busy page count, the eight configuration bytes by name, and the
+    memories by name. Of what is pending the addresses stay in the file."""
 
     state: int
     status: int
+    pending: int
+    busy: int
     config: dict
     memory: dict
 
     def write(self, path):
-        path.write_bytes(LAYOUT.pack(self.state, self.status, bytes(self.config[n] for n in CONFIG), self.memory["flash"], self.memory["EEPROM"]))
+        config = bytes(self.config[name] for name in CONFIG)
+        path.write_bytes(LAYOUT.pack(self.state, self.status, self.pending, config, self.busy, self.memory["flash"], self.memory["EEPROM"]))
 
 
 def read_board(path):
-    state, status, config, flash, eeprom = LAYOUT.unpack(path.read_bytes())
-    return Board(state, status, dict(zip(CONFIG, config)), {"flash": bytearray(flash), "EEPROM": bytearray(eeprom)})
+    state, status, pending, config, busy, flash, eeprom = LAYOUT.unpack(path.read_bytes())
+    memory = {"flash": bytearray(flash), "EEPROM": bytearray(eeprom)}
+    return Board(state, status, pending, busy, dict(zip(CONFIG, config)), memory)
 
 
 @dataclasses.dataclass

@@ -20,6 +20,7 @@ enum { DONE, STALL, START_RESET, START_AT, REFUSED };
 
 static struct {
     uint64_t session, config;
+    uint16_t busy, unused[3]; // unused, so that the compiler leaves no gap in the file
     uint8_t flash[32768], eeprom[1024];
 } board;
 
@@ -184,8 +185,8 @@ int libusb_control_transfer(libusb_device_handle *handle, uint8_t type, uint8_t 
     size_t sent_size = type & DEVICE_TO_HOST ? 0 : length, count = 0, pages = 0;
     // The loader wants a pointer that leads somewhere, for no bytes too.
     const uint8_t *sent = sent_size ? data : setup;
-    uint64_t outcome = loader_step(&board.session, &board.config, setup, SETUP_SIZE, sent, sent_size, board.flash, sizeof board.flash,
-                                   board.eeprom, sizeof board.eeprom, reply, REPLY_SIZE, &count, &pages);
+    uint64_t outcome = loader_step(&board.session, &board.busy, &board.config, setup, SETUP_SIZE, sent, sent_size, board.flash,
+                                   sizeof board.flash, board.eeprom, sizeof board.eeprom, reply, REPLY_SIZE, &count, &pages);
     record(setup, sent, sent_size, outcome, pages, reply, count);
     transfer_board("wb");
     // No answer is longer than wLength, which is the room that the host has.

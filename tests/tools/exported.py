@@ -1,5 +1,6 @@
 """What crates/exports exports, read from three places: the Rattle source, the Rust declarations and the C header; and the layout of its
-numbers, read from the code of crates/numbers and crates/plugnumbers and from the tables of the header."""
+numbers, read from the code of crates/numbers and crates/plugnumbers and from the tables of the header; and the most that the busy page
+count may be, read from the code of crates/requests and from the header."""
 import re
 
 RATTLE = {
@@ -155,3 +156,11 @@ def from_header(text):
                 rows.append((int(words[0]), *words[1:]))
         tables[title] = (head, columns, rows)
     return tables
+
+
+def most_busy_of_code(read):
+    return re.findall(r"const MOST_BUSY: u16 = (\d+);", read("requests/refusal.rt"))
+
+
+def most_busy_of_header(text):
+    return re.findall(r"a count above (\d+) is refused with 6", text)

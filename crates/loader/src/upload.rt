@@ -3,7 +3,7 @@ ghost use mathlib.Core.Path.{_≡_};
 ghost use mathlib.Core.Bool.{false};
 ghost use Prim.Native.Nat.{_≤_, _<_};
 ghost use lib.ListN.{length};
-ghost use Rattle.rules.specs.Session.{cleared};
+ghost use Rattle.rules.specs.Session.{idleWith};
 ghost use Rattle.rules.specs.Result.{board as boardOf};
 ghost use Rattle.rules.specs.Requests.{restOf, readSent, send as sendOf, upload as uploadOf};
 ghost use Rattle.rules.specs.Refusals.{badPending, replySize};
@@ -68,7 +68,7 @@ fn send_read(
     reply: &mut [u8],
 ) -> Answer
     requires { ⌜ Sendable n (Pending.MemoryRead range) (now flash) (now eeprom) (now reply) ⌝ }
-    ensures { λ r. let b = boardOf (cleared busy) config (now (flash .entry)) (now (eeprom .entry)) in
+    ensures { λ r. let b = boardOf (idleWith busy) config (now (flash .entry)) (now (eeprom .entry)) in
         ⌜ Replied (sendOf b n (Pending.MemoryRead range)) r (now (reply .exit)) (now (reply .entry)) ⌝ }
 {
     let all = command::range_count(range);
@@ -90,7 +90,7 @@ fn send_read(
 fn send_report(busy: u16, config: Config, address: FlashAddress, n: u16, reply: &mut [u8]) -> Answer
     requires { ⌜ 0 < n ⌝ }
     requires { ⌜ replySize ≤ length (now reply) ⌝ }
-    ensures { λ r. let sending = sendOf (bare (cleared busy) config) n (Pending.BlankReport address) in
+    ensures { λ r. let sending = sendOf (bare (idleWith busy) config) n (Pending.BlankReport address) in
         ⌜ Replied sending r (now (reply .exit)) (now (reply .entry)) ⌝ }
 {
     let high = (address.0 / 256) as u8;
@@ -106,7 +106,7 @@ fn send_report(busy: u16, config: Config, address: FlashAddress, n: u16, reply: 
 fn send_byte(busy: u16, config: Config, value: u8, n: u16, reply: &mut [u8]) -> Answer
     requires { ⌜ 0 < n ⌝ }
     requires { ⌜ replySize ≤ length (now reply) ⌝ }
-    ensures { λ r. let sending = sendOf (bare (cleared busy) config) n (Pending.OneByte value) in
+    ensures { λ r. let sending = sendOf (bare (idleWith busy) config) n (Pending.OneByte value) in
         ⌜ Replied sending r (now (reply .exit)) (now (reply .entry)) ⌝ }
 {
     words::lay(reply, 0, &[value]);

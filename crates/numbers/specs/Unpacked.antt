@@ -23,7 +23,8 @@ Word n = n < 0x10000
 abbrev pub Words : Range → Type 0
 Words r = Word (rangeStart r) × Word (rangeEnd r)
 
--- the numbers of a session, of a configuration and of a command are bytes and words, as the code's types have them
+-- the numbers of a session, of a configuration and of a command are bytes and words, as the code's types have them; the busy count is not
+-- packed, and nothing is asked of it
 abbrev pub PendingFits : Pending → Type 0
 PendingFits Nothing = Unit {0}
 PendingFits (MemoryRead r) = Words r

@@ -1,28 +1,33 @@
 -- The statements of specs/Busy.antt hold: each goes through the rules once, a test at a time.
 -- Assumes nothing.
 use mathlib.Core.Path.{_≡_, refl}
-use mathlib.Core.Bool.{Bool, true, false, _&&_}
+use mathlib.Core.Bool.{Bool, true, false, not, _||_, _&&_, or-true}
 use mathlib.Core.List.{List, []}
 use mathlib.Core.Option.{Option, none, some}
-use Prim.Native.Nat.{ℕ}
+use Prim.Native.Nat.{ℕ, _*_, _/_, _%_, _≤_, _<_}
+use native.Mathlib.Omega.{arith}
 use lib.Dec.{eqb, ltb}
+use lib.ListN.{length}
+use borrow.Author.Tests.{lt-ltb, le-ltb, ne-eqb}
 use Rattle.words.specs.Words.{if_then_else_, among}
+use Rattle.memory.specs.Memory.{flashSize, eepromSize}
 use Rattle.config.specs.Level.{level}
 use Rattle.command.specs.Form.{form}
 use Rattle.command.specs.Address.{badAddress, badAddressStatus}
 use Rattle.command.specs.Transfer.{badLength}
 use Rattle.command.specs.declared.command.Command.{Command}
-use Rattle.rules.specs.Session.{session, cleared, Pending, Nothing, MemoryRead, BlankReport, OneByte, Start}
+use Rattle.rules.specs.Session.{session, idleWith, Pending, Nothing, MemoryRead, BlankReport, OneByte, Start}
 use Rattle.rules.specs.Levels.{levelStatus}
 use Rattle.rules.specs.Result.{Board, Result, reply, pages, Done, Stall, Refused}
 use Rattle.rules.specs.Commands.{stall, setStatus, Effect, perform, accept, forbidden, obey, obeyForm}
 use Rattle.rules.specs.Requests.{Request, Dnload, Upload, GetStatus, GetState, ClrStatus, Abort, Other, requestOf, respond, dnload, endPlain, endDownload}
 use Rattle.rules.specs.Requests.{startStates, startPending, startOf, commandStates, clrStates, abortStates, clearIn, mostData}
-use Rattle.rules.specs.Requests.{uploadStates, sendable, pendingCount, pendingAfter, send, upload}
-use Rattle.rules.specs.Refusals.{refusal}
+use Rattle.rules.specs.Requests.{entered, timeout, getStatus, uploadStates, sendable, pendingCount, pendingAfter, send, upload}
+use Rattle.rules.specs.Refusals.{knownState, badPending, badSession, badData, replySize, mostBusy, refusal}
 use Rattle.rules.specs.Step.{Ask, PowerUp, ask, step}
-use Rattle.rules.specs.Busy.{countAfter, BusyCounted, works, RestStalls}
-use Rattle.rules.proofs.StepLaws.{through, empty-stalls}
+use Rattle.rules.specs.Busy.{countAfter, BusyCounted, Told, StatusTold, BusyTold, works, sentFrom4, leftFrom4, AnsweredIn4}
+use Rattle.rules.specs.Busy.{InState4, StartsBusy, BusyAdmitted}
+use Rattle.rules.proofs.StepLaws.{through, empty-stalls, unrefused}
 
 -- ---- what becomes of the count
 
@@ -84,7 +89,7 @@ module _ (b : Board) (d : List ℕ) (n : ℕ) where
       (through Sent (among (b .session .state) commandStates) (counted-form (form d)) stalled))
 
 -- CLRSTATUS keeps it and ABORT clears it
-counted-clear : (b : Board) (q : Request) (states : List ℕ) (busy : ℕ) → Counted b q (reply (b .config) Done [] (cleared busy))
+counted-clear : (b : Board) (q : Request) (states : List ℕ) (busy : ℕ) → Counted b q (reply (b .config) Done [] (idleWith busy))
     → Counted b q (clearIn states busy b)
 counted-clear b q states busy h = through (Counted b q) (among (b .session .state) states) h (counted-stall b q)
 
@@ -111,33 +116,94 @@ busy-counted b (Ask setup d n) =
     through (Counted b q) (eqb (refusal b setup d n) 0) (counted b d q) (counted-refused b q (refusal b setup d n))
 busy-counted b PowerUp = refl
 
+-- ---- GETSTATUS
+
+module _ (b : Board) (few : b .session .busy ≤ mostBusy) where
+  -- a time that has three bytes
+  tells : (time state : ℕ) → time ≤ 10 * mostBusy → timeout (b .session) ≡ time → entered (b .session) ≡ state → Told b (getStatus b) time state
+  tells time state h t e = record {
+    low = time % 256;
+    middle = time / 256 % 256;
+    high = time / 65536 % 256;
+    sent = rw (t, e);
+    bytes = (omega arith, omega arith, omega arith);
+    together = omega arith;
+    moved = e;
+    status-stays = refl;
+    pending-stays = refl;
+  }
+
+  told : StatusTold b (getStatus b)
+  told = record {
+    first = λ h k. let t = lt-ltb 0 (b .session .busy) k in tells (10 * b .session .busy) 4 (omega arith) (rw (h, t)) (rw (h, t));
+    no-pages = λ h k. tells 0 5 (omega arith) (rw (h, k)) (rw (h, k));
+    second = λ h. tells 0 5 (omega arith) (rw h) (rw h);
+    ended = λ h. tells 0 2 (omega arith) (rw h) (rw h);
+    elsewhere = λ x y z.
+        let not-3 = ne-eqb (b .session .state) 3 x in
+        tells 0 (b .session .state) (omega arith) (rw not-3) (rw (not-3, ne-eqb (b .session .state) 4 y, ne-eqb (b .session .state) 6 z));
+  }
+
+pub busy-told : BusyTold
+unfolding ask respond
+busy-told b setup d n g q = rw (q, g) (told b (unrefused b setup d n q .few-busy))
+
 -- ---- state 4
 
 module _ (b : Board) (four : b .session .state ≡ 4) where
-  abbrev Answered : Request → Result → Type 0
-  Answered q r = r .outcome ≡ (if works q then Done else Stall)
+  abbrev In4 : Request → Result → Type 0
+  In4 = AnsweredIn4 (b .session .status)
 
-  stalls : (q : Request) → works q ≡ false → Answered q (stall b)
+  stalls : (q : Request) → works q ≡ false → sentFrom4 (b .session .status) q ≡ [] → leftFrom4 q ≡ 10 → In4 q (stall b)
   unfolding stall
-  stalls q h = rw h
+  stalls q w s l = record { outcome = rw w; sent = rw s; state = rw l }
 
-  rest : (d : List ℕ) (q : Request) → Answered q (respond b q d)
+  in-4 : (d : List ℕ) (q : Request) → In4 q (respond b q d)
   unfolding respond dnload upload
-  rest d (Dnload n) =
+  in-4 d (Dnload n) =
       let t : among (b .session .state) commandStates ≡ false = rw four in
-      let no = stalls (Dnload n) refl in
-      rw (empty-stalls b (rw four) (rw four), t) (through (Answered (Dnload n)) (ltb mostData n) no (through (Answered (Dnload n)) (eqb n 0) no no))
-  rest d (Upload n) =
+      let stalled = stalls (Dnload n) refl refl refl in
+      rw (empty-stalls b (rw four) (rw four), t) (through (In4 (Dnload n)) (ltb mostData n) stalled (through (In4 (Dnload n)) (eqb n 0) stalled stalled))
+  in-4 d (Upload n) =
       let t : among (b .session .state) uploadStates ≡ false = rw four in
-      rw t (stalls (Upload n) refl)
-  rest d GetStatus = refl
-  rest d GetState = refl
-  rest d ClrStatus =
+      rw t (stalls (Upload n) refl refl refl)
+  in-4 d GetStatus = record { outcome = refl; sent = rw four; state = rw four }
+  in-4 d GetState = record { outcome = refl; sent = rw four; state = four }
+  in-4 d ClrStatus =
       let t : among (b .session .state) clrStates ≡ false = rw four in
-      rw t (stalls ClrStatus refl)
-  rest d Abort = rw four
-  rest d Other = stalls Other refl
+      rw t (stalls ClrStatus refl refl refl)
+  in-4 d Abort =
+      let t : among (b .session .state) abortStates ≡ true = rw four in
+      rw t (record { outcome = refl; sent = refl; state = refl })
+  in-4 d Other = stalls Other refl refl refl
 
-pub rest-stalls : RestStalls
+pub in-state-4 : InState4
 unfolding ask
-rest-stalls b setup d n four q = rw q (rest b four d (requestOf setup))
+in-state-4 b setup d n four q = rw q (in-4 b four d (requestOf setup))
+
+pub starts-busy : StartsBusy
+unfolding ask respond dnload endDownload
+starts-busy b setup d n k a three p g q = rw (q, g, three, p)
+
+-- ---- refusals
+
+-- with a session that is refused, one of the first six numbers is given
+one-to-six : (t u v w x : Bool) (z : ℕ)
+    → let k : ℕ = if not t then 1 else if not u then 2 else if not v then 3 else if w then 4 else if x then 5 else if true then 6 else z in (0 < k) × (k ≤ 6)
+one-to-six false u v w x z = (omega arith, omega arith)
+one-to-six true false v w x z = (omega arith, omega arith)
+one-to-six true true false w x z = (omega arith, omega arith)
+one-to-six true true true true x z = (omega arith, omega arith)
+one-to-six true true true false true z = (omega arith, omega arith)
+one-to-six true true true false false z = (omega arith, omega arith)
+
+pub busy-admitted : BusyAdmitted
+unfolding refusal
+busy-admitted = record {
+  refuses = λ b setup d n h.
+      let head : Bool = not (knownState (b .session .state)) || ltb 0x0F (b .session .status) || badPending (b .session .pending) in
+      let bad : badSession (b .session) ≡ true = rw (lt-ltb 256 (b .session .busy) h) (or-true head) in
+      rw bad (one-to-six (eqb (length setup) 8) (eqb (length (b .flash)) flashSize) (eqb (length (b .eeprom)) eepromSize) (badData setup d)
+      (ltb n replySize) (if eqb (b .session .state) 0 then 7 else 0));
+  admits = λ s four status pending few. rw (four, le-ltb 0x0F (s .status) status, pending, le-ltb 256 (s .busy) few);
+}

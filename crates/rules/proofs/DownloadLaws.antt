@@ -24,7 +24,7 @@ use Rattle.rules.specs.Session.{Session, session, idle, Nothing, Start, 
 use Rattle.rules.specs.Levels.{levelStatus}
 use Rattle.rules.specs.Result.{board, reply, Answer, answer, Outcome, Done, Stall, Started}
 use Rattle.rules.specs.Commands.{stall, perform, accept, obey, obeyForm}
-use Rattle.rules.specs.Requests.{mostData, startPending, startOf, endPlain, endDownload, dnload}
+use Rattle.rules.specs.Requests.{mostData, startPending, startOf, endPlain, startStates, endDownload, commandStates, dnload}
 use Rattle.rules.specs.Answered.{bare, Answered}
 
 -- which form an answer stands for
@@ -105,15 +105,15 @@ module _ (s : Session) (c : Config) (f e : List ℕ) where
     unfolding dnload endDownload endPlain stall
     ending h z q =
         rw (le-ltb mostData n h, eq-eqb n 0 z)
-        (either (among (s .state) (3 ∷ 5 ∷ []) && startPending (s .pending)) (eqb (s .state) 5) (startOf (s .pending)) Stall
+        (either (among (s .state) startStates && startPending (s .pending)) (eqb (s .state) 5) (startOf (s .pending)) Stall
         (session 0 (s .status) Nothing (s .busy)) (session 6 (s .status) Nothing (s .busy)) (stall (bare s c) .session) q)
 
-    pub commanding : {a : Answer} {f′ e′ : List ℕ} → n ≤ mostData → (n ≡ 0 → ⊥) → among (s .state) (2 ∷ 5 ∷ []) ≡ true
+    pub commanding : {a : Answer} {f′ e′ : List ℕ} → n ≤ mostData → (n ≡ 0 → ⊥) → among (s .state) commandStates ≡ true
         → Answered (board s c f e) (obeyForm (board s c f e) (form d) d) a f′ e′ → Answered (board s c f e) (dnload (board s c f e) n d) a f′ e′
     unfolding dnload
     commanding h z t r = rw (le-ltb mostData n h, ne-eqb n 0 z, t) r
 
-    pub elsewhere : {a : Answer} → n ≤ mostData → (n ≡ 0 → ⊥) → among (s .state) (2 ∷ 5 ∷ []) ≡ false
+    pub elsewhere : {a : Answer} → n ≤ mostData → (n ≡ 0 → ⊥) → among (s .state) commandStates ≡ false
         → a ≡ answer (stall (bare s c)) → Answered (board s c f e) (dnload (board s c f e) n d) a f e
     unfolding dnload
     elsewhere h z t q = rw (le-ltb mostData n h, ne-eqb n 0 z, t) (stalled q)
@@ -128,15 +128,15 @@ module _ (s : Session) (c : Config) (a : Answer) where
   unfolding endPlain
   ends-not t q = rw t q
 
-  pub starts : (k : StartKind) (x : FlashAddress) → s .pending ≡ Start k x → among (s .state) (3 ∷ 5 ∷ []) ≡ true
+  pub starts : (k : StartKind) (x : FlashAddress) → s .pending ≡ Start k x → among (s .state) startStates ≡ true
       → a ≡ answer (reply c (Started k x) [] (session 0 (s .status) Nothing (s .busy))) → a ≡ answer (endDownload (bare s c))
   unfolding endDownload
   starts k x p t q = rw (p, t) q
 
-  pub starts-not : among (s .state) (3 ∷ 5 ∷ []) ≡ false → a ≡ answer (endPlain (bare s c)) → a ≡ answer (endDownload (bare s c))
+  pub starts-not : among (s .state) startStates ≡ false → a ≡ answer (endPlain (bare s c)) → a ≡ answer (endDownload (bare s c))
   unfolding endDownload
   starts-not t q = rw t q
 
   pub no-start : startPending (s .pending) ≡ false → a ≡ answer (endPlain (bare s c)) → a ≡ answer (endDownload (bare s c))
   unfolding endDownload
-  no-start p q = rw (p, and-false (among (s .state) (3 ∷ 5 ∷ []))) q
+  no-start p q = rw (p, and-false (among (s .state) startStates)) q

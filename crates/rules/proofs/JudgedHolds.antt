@@ -20,9 +20,9 @@ use Rattle.command.specs.declared.command.Command.the-variants.{ProgramFlash, P
 use Rattle.rules.specs.Result.{Board, Result}
 use Rattle.rules.specs.Levels.{levelStatus}
 use Rattle.rules.specs.Commands.{stall, setStatus, perform, accept, forbidden, obey, obeyForm}
-use Rattle.rules.specs.Judged.{transferWith, Alike, JudgedAlike}
+use Rattle.rules.specs.Judged.{transferWith, SameVerdict, JudgedAlike}
 
-same : (r : Result) → Alike r r
+same : (r : Result) → SameVerdict r r
 same r = record { outcome = refl; state = refl; status = refl; pending = refl }
 
 -- an end that is inside the EEPROM is inside the flash
@@ -33,8 +33,8 @@ inside-both a e h =
     rw (in-flash, in-eeprom)
 
 -- level, address and length, asked one after the other
-three-tests : (t u w : Bool) (x y z r s : Result) → Alike r s
-    → Alike (if t then x else if u then y else if w then z else r) (if t then x else if u then y else if w then z else s)
+three-tests : (t u w : Bool) (x y z r s : Result) → SameVerdict r s
+    → SameVerdict (if t then x else if u then y else if w then z else r) (if t then x else if u then y else if w then z else s)
 three-tests true u w x y z r s h = same x
 three-tests false true w x y z r s h = same y
 three-tests false false true x y z r s h = same z
@@ -47,7 +47,7 @@ module _ (b : Board) (rest : List ℕ) (a e : ℕ) (h : e < eepromSize) where
   abbrev to-eeprom : Command
   to-eeprom = ProgramEeprom (eepromAddress a) (eepromAddress e)
 
-  obey-alike : Alike (obey b to-flash (transferWith 0x00 rest)) (obey b to-eeprom (transferWith 0x01 rest))
+  obey-alike : SameVerdict (obey b to-flash (transferWith 0x00 rest)) (obey b to-eeprom (transferWith 0x01 rest))
   unfolding obey perform
   obey-alike =
       rw (inside-both a e h)
@@ -56,7 +56,7 @@ module _ (b : Board) (rest : List ℕ) (a e : ℕ) (h : e < eepromSize) where
       (accept to-flash (perform b to-flash (transferWith 0x00 rest))) (accept to-eeprom (perform b to-eeprom (transferWith 0x01 rest)))
       (record { outcome = refl; state = refl; status = refl; pending = refl }))
 
-  form-alike : (t : Bool) → Alike (obeyForm b (if t then some to-flash else none) (transferWith 0x00 rest))
+  form-alike : (t : Bool) → SameVerdict (obeyForm b (if t then some to-flash else none) (transferWith 0x00 rest))
       (obeyForm b (if t then some to-eeprom else none) (transferWith 0x01 rest))
   form-alike true = obey-alike
   form-alike false = same (stall b)

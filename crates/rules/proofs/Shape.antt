@@ -21,8 +21,8 @@ use Rattle.rules.specs.Levels.{levelStatus}
 use Rattle.rules.specs.Result.{Board, Result, reply, Outcome, Done, Stall, Started, Refused}
 use Rattle.rules.specs.Commands.{stall, perform, accept, forbidden, obey, obeyForm}
 use Rattle.rules.specs.Requests.{Request, Dnload, Upload, GetStatus, GetState, ClrStatus, Abort, Other, requestOf, startPending, startOf}
-use Rattle.rules.specs.Requests.{clrStates, abortStates, endPlain, startStates, endDownload, mostData, commandStates, dnload, uploadStates, sendable, send}
-use Rattle.rules.specs.Requests.{upload, respond}
+use Rattle.rules.specs.Requests.{clrStates, abortStates, endPlain, startStates, endDownload, mostData, commandStates, dnload}
+use Rattle.rules.specs.Requests.{uploadStates, sendable, send, upload, respond}
 use Rattle.rules.specs.Refusals.{refusal}
 use Rattle.rules.specs.Step.{ask}
 use Rattle.rules.proofs.StepLaws.{unrefused}

@@ -13,7 +13,7 @@ use borrow.Author.Tests.{le-leb, eq-eqb, ne-eqb}
 use Rattle.words.specs.Words.{among, laid}
 use Rattle.words.proofs.WordsLaws.{overlay-front}
 use Rattle.config.specs.declared.config.Config.{Config}
-use Rattle.rules.specs.Session.{Session, cleared}
+use Rattle.rules.specs.Session.{Session, idleWith}
 use Rattle.rules.specs.Result.{Answer, reply, answer, Done}
 use Rattle.rules.specs.Commands.{stall}
 use Rattle.rules.specs.Requests.{clearIn}
@@ -37,7 +37,7 @@ none-of (k ∷ k′ ∷ ks) n h = rw (ne-eqb n k (λ e. h (inl e))) (none-of (k�
 
 -- a request that clears in some states, and the busy count that it leaves
 module _ (states : List ℕ) (busy : ℕ) (s : Session) (c : Config) (a : Answer) where
-  pub clears : among (s .state) states ≡ true → a ≡ answer (reply c Done [] (cleared busy)) → a ≡ answer (clearIn states busy (bare s c))
+  pub clears : among (s .state) states ≡ true → a ≡ answer (reply c Done [] (idleWith busy)) → a ≡ answer (clearIn states busy (bare s c))
   clears q p = rw q p
 
   pub stalls : among (s .state) states ≡ false → a ≡ answer (stall (bare s c)) → a ≡ answer (clearIn states busy (bare s c))

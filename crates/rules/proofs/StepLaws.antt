@@ -36,6 +36,7 @@ pub record Unrefused (b : Board) (n : ℕ) : Type 0 where
   pub eeprom-size : length (b .eeprom) ≡ eepromSize
   pub room : replySize ≤ n
   pub pending-right : badPending (b .session .pending) ≡ false
+  pub few-busy : b .session .busy ≤ mostBusy
 
 passed : (t u v w x y : Bool) (z : ℕ)
     → (if not t then 1 else if not u then 2 else if not v then 3 else if w then 4 else if x then 5 else if y then 6 else z) ≡ 0
@@ -55,11 +56,13 @@ unrefused b setup d n q =
     let head : Bool = not (knownState (s .state)) || ltb 0x0F (s .status) in
     let h = passed (eqb (length setup) 8) (eqb (length (b .flash)) flashSize) (eqb (length (b .eeprom)) eepromSize) (badData setup d)
     (ltb n replySize) (badSession s) _ q in
+    let right = or-false (head || badPending (s .pending)) (ltb mostBusy (s .busy)) (h .3) in
     record {
       flash-size = eqb-true _ flashSize (h .0);
       eeprom-size = eqb-true _ eepromSize (h .1);
       room = ltb-false n replySize (h .2);
-      pending-right = or-false head (badPending (s .pending)) (or-false (head || badPending (s .pending)) (ltb mostBusy (s .busy)) (h .3) .0) .1;
+      pending-right = or-false head (badPending (s .pending)) (right .0) .1;
+      few-busy = ltb-false mostBusy (s .busy) (right .1);
     }
 
 -- a result that stores nothing; one that also sends nothing

@@ -20,10 +20,10 @@ use Rattle.memory.specs.declared.address.Range.the-variants.{Flash, Eeprom}
 use Rattle.config.specs.declared.config.Config.{Config}
 use Rattle.command.specs.Address.{badRange}
 use Rattle.command.proofs.AddressLaws.{Good, badEnds-good}
-use Rattle.rules.specs.Session.{Session, cleared, Pending, Nothing, MemoryRead, BlankReport, OneByte}
+use Rattle.rules.specs.Session.{Session, idleWith, Pending, Nothing, MemoryRead, BlankReport, OneByte}
 use Rattle.rules.specs.Result.{Board, board, Answer, answer}
 use Rattle.rules.specs.Commands.{stall}
-use Rattle.rules.specs.Requests.{sendable, rangeContent, pendingBytes, pendingCount, restOf, pendingAfter, send, upload}
+use Rattle.rules.specs.Requests.{sendable, rangeContent, pendingBytes, pendingCount, restOf, pendingAfter, send, uploadStates, upload}
 use Rattle.rules.specs.Answered.{bare, Replied, Sizes, Sendable, Splits, firstOf, sendPending, sentAnswer}
 use Rattle.rules.proofs.StatusLaws.{reply-laid}
 use Rattle.rules.proofs.PerformLaws.{selected-sized}
@@ -86,7 +86,7 @@ module _ (b : Board) (q : Pending) (a e n k : ℕ) (m p p′ : List ℕ) (bytes 
 -- a memory read, by the memory that its range selects; of the session the busy count alone is looked at
 module _ (busy : ℕ) (c : Config) (f e p : List ℕ) (n k : ℕ) (p′ : List ℕ) where
   abbrev b : Board
-  b = board (cleared busy) c f e
+  b = board (idleWith busy) c f e
 
   bytes-of : (r : Range) → rangeContent b r ≡ part (rangeStart r) (rangeEnd r) (selected r f e)
   bytes-of (Flash x y) = refl
@@ -134,7 +134,7 @@ in-word (Eeprom x y) n p = let m = p .more in let i = p .inside in omega arith
 -- a blank report and one byte
 module _ (busy : ℕ) (c : Config) (n : ℕ) (p p′ : List ℕ) (room : 1024 ≤ length p) where
   abbrev lone : Board
-  lone = bare (cleared busy) c
+  lone = bare (idleWith busy) c
 
   pub report-first : (x : FlashAddress) {z : Answer} → n ≡ 1 → p′ ≡ laid 0 (x .0 / 256 ∷ []) p → z ≡ sentAnswer c 9 (OneByte (x .0 % 256)) busy 1
       → Replied (send lone n (BlankReport x)) z p′ p
@@ -157,18 +157,18 @@ module _ (busy : ℕ) (c : Config) (n : ℕ) (p p′ : List ℕ) (room : 1024 �
 -- UPLOAD by what is pending
 module _ (s : Session) (c : Config) (f e : List ℕ) (n : ℕ) where
   pub sends-read : (r : Range) {z : Answer} {p p′ : List ℕ} → s .pending ≡ MemoryRead r → sendable (MemoryRead r) (level c) ≡ true
-      → Replied (send (board (cleared (s .busy)) c f e) n (MemoryRead r)) z p′ p → Replied (sendPending (board s c f e) n) z p′ p
+      → Replied (send (board (idleWith (s .busy)) c f e) n (MemoryRead r)) z p′ p → Replied (sendPending (board s c f e) n) z p′ p
   unfolding send
   sends-read (Flash x y) q t r = rw (q, t) r
   sends-read (Eeprom x y) q t r = rw (q, t) r
 
   pub sends-report : (x : FlashAddress) {z : Answer} {p p′ : List ℕ} → s .pending ≡ BlankReport x
-      → Replied (send (bare (cleared (s .busy)) c) n (BlankReport x)) z p′ p → Replied (sendPending (board s c f e) n) z p′ p
+      → Replied (send (bare (idleWith (s .busy)) c) n (BlankReport x)) z p′ p → Replied (sendPending (board s c f e) n) z p′ p
   unfolding send
   sends-report x q r = rw q r
 
   pub sends-byte : (v : ℕ) {z : Answer} {p p′ : List ℕ} → s .pending ≡ OneByte v
-      → Replied (send (bare (cleared (s .busy)) c) n (OneByte v)) z p′ p → Replied (sendPending (board s c f e) n) z p′ p
+      → Replied (send (bare (idleWith (s .busy)) c) n (OneByte v)) z p′ p → Replied (sendPending (board s c f e) n) z p′ p
   unfolding send
   sends-byte v q r = rw q r
 
@@ -182,13 +182,13 @@ module _ (s : Session) (c : Config) (f e : List ℕ) (n : ℕ) where
 
     pub no-bytes : n ≡ 0 → Replied (upload (board s c f e) n) z p p
     unfolding upload
-    no-bytes t = rw (t, and-false (among (s .state) (5 ∷ 9 ∷ []))) stalled
+    no-bytes t = rw (t, and-false (among (s .state) uploadStates)) stalled
 
-    pub elsewhere : among (s .state) (5 ∷ 9 ∷ []) ≡ false → Replied (upload (board s c f e) n) z p p
+    pub elsewhere : among (s .state) uploadStates ≡ false → Replied (upload (board s c f e) n) z p p
     unfolding upload
     elsewhere t = rw t stalled
 
-  pub uploads : {z : Answer} {p p′ : List ℕ} → among (s .state) (5 ∷ 9 ∷ []) ≡ true → 0 < n
+  pub uploads : {z : Answer} {p p′ : List ℕ} → among (s .state) uploadStates ≡ true → 0 < n
       → Replied (sendPending (board s c f e) n) z p′ p → Replied (upload (board s c f e) n) z p′ p
   unfolding upload
   uploads t l r = rw (t, lt-ltb 0 n l) r

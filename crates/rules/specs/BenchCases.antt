@@ -76,8 +76,8 @@ notBlank x = record { outcome = Done; sent = []; session = session 3 0x05 (Blank
 
 -- P5 of 02: "Cases 2, 6, 7 and 11 gain this step": a board that took a command of so many pages is asked twice with GETSTATUS. The first
 -- sends these six bytes, moves to state 4 and keeps the count; the second sends 00 00 00 00 05 00, moves to 5 and clears it
-pub record Waits (b : Board) (pageCount : ℕ) (six : List ℕ) (v w : Unnamed) : Type 0 where
-  pub first : step b (askStatus v) ≡ reply (b .config) Done six (session 4 0x00 Nothing pageCount)
+pub record Waits (b : Board) (pageCount : ℕ) (firstStatus : List ℕ) (v w : Unnamed) : Type 0 where
+  pub first : step b (askStatus v) ≡ reply (b .config) Done firstStatus (session 4 0x00 Nothing pageCount)
   pub second : step (next b (step b (askStatus v))) (askStatus w) ≡ reply (b .config) Done (0 ∷ 0 ∷ 0 ∷ 0 ∷ 5 ∷ 0 ∷ []) (session 5 0x00 Nothing 0)
 
 -- ---- what each kind of case says
@@ -96,12 +96,12 @@ transfer a e filler pad new suffix = programHead a e ++ filler ++ pad ++ new ++ 
 
 -- a board at level 0, sent a program transfer of n bytes for the range a to e, takes it with so many pages; the flash then holds
 -- the programmed bytes, and every other byte as before; and the board waits
-pub record Programs (a e n pageCount : ℕ) (six : List ℕ) : Type 0 where
+pub record Programs (a e n pageCount : ℕ) (firstStatus : List ℕ) : Type 0 where
   pub programs : (b : Board) → Ready L0 b → (u v w : Unnamed) (filler pad new suffix : List ℕ)
       → length filler ≡ 26 → length new ≡ count a e → length suffix ≡ 16 → length (transfer a e filler pad new suffix) ≡ n
       → let r : Result = step b (download u (transfer a e filler pad new suffix)) in
       (line r ≡ taken pageCount) × Programmed a new (b .flash) (next b r .flash) × (next b r .eeprom ≡ b .eeprom) × (next b r .config ≡ b .config)
-      × Waits (next b r) pageCount six v w
+      × Waits (next b r) pageCount firstStatus v w
 
 -- the first byte that is not FFh stands at x
 pub record FirstUsedAt (f : List ℕ) (x : ℕ) : Type 0 where
@@ -129,11 +129,11 @@ pub record ErasedConfig (before after : Config) : Type 0 where
   pub hsb : after .hsb ≡ before .hsb
 
 -- a board at level l, sent the full chip erase, takes it with so many pages and is at level m; flash FFh, EEPROM kept; and the board waits
-pub record Erases (l : Level) (pageCount : ℕ) (m : Level) (six : List ℕ) : Type 0 where
+pub record Erases (l : Level) (pageCount : ℕ) (m : Level) (firstStatus : List ℕ) : Type 0 where
   pub erases : (b : Board) → Ready l b → (u v w : Unnamed)
       → let r : Result = step b (download u (0x04 ∷ 0x00 ∷ 0xFF ∷ [])) in
       (line r ≡ taken pageCount) × (level (next b r .config) ≡ m) × (next b r .flash ≡ blankFlash) × (next b r .eeprom ≡ b .eeprom)
-      × ErasedConfig (b .config) (next b r .config) × Waits (next b r) pageCount six v w
+      × ErasedConfig (b .config) (next b r .config) × Waits (next b r) pageCount firstStatus v w
 
 -- HSB v, sent to a board at level l that has HSB old, is taken and leaves HSB new
 pub record WritesHsb (l : Level) (v old new : ℕ) : Type 0 where
@@ -154,9 +154,9 @@ pub data Case : Type 0 where
 abbrev pub Holds : Case → Type 0
 Holds (Pad a x) = padding a ≡ x
 Holds (Answer l head least most o) = Answers l head least most o
-Holds (Program a e n k six) = Programs a e n k six
+Holds (Program a e n k firstStatus) = Programs a e n k firstStatus
 Holds (Find l x o) = Finds l x o
-Holds (Erase l k m six) = Erases l k m six
+Holds (Erase l k m firstStatus) = Erases l k m firstStatus
 Holds (Hsb l v old new) = WritesHsb l v old new
 
 abbrev pub All : List Case → Type 0

@@ -18,12 +18,12 @@ abbrev pub answerTo : Board → ℕ → List ℕ → Result
 answerTo b code rest = obeyForm b (form (transferWith code rest)) (transferWith code rest)
 
 -- one outcome, and one session but for the busy count, which is P5's: EEPROM has no pages to wait for
-pub record Alike (r r′ : Result) : Type 0 where
+pub record SameVerdict (r r′ : Result) : Type 0 where
   pub outcome : r .outcome ≡ r′ .outcome
   pub state : r .session .state ≡ r′ .session .state
   pub status : r .session .status ≡ r′ .session .status
   pub pending : r .session .pending ≡ r′ .session .pending
 
--- two transfers that differ in the second byte alone, and whose last address is one of both memories
+-- two transfers that differ in the second byte alone, and whose last address is one of both memories, are judged alike
 abbrev pub JudgedAlike : Type 0
-JudgedAlike = (b : Board) (rest : List ℕ) → highFirst rest 2 < eepromSize → Alike (answerTo b 0x00 rest) (answerTo b 0x01 rest)
+JudgedAlike = (b : Board) (rest : List ℕ) → highFirst rest 2 < eepromSize → SameVerdict (answerTo b 0x00 rest) (answerTo b 0x01 rest)

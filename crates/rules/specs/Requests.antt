@@ -12,7 +12,7 @@ use Rattle.memory.specs.declared.address.Range.the-variants.{Flash, Eeprom}
 use Rattle.config.specs.declared.level.Level.{Level}
 use Rattle.config.specs.declared.level.Level.the-variants.{L0, L1, L2}
 use Rattle.command.specs.Form.{form}
-use Rattle.rules.specs.Session.{Session, session, cleared, Pending, Nothing, MemoryRead, BlankReport, OneByte, Start}
+use Rattle.rules.specs.Session.{Session, session, idleWith, Pending, Nothing, MemoryRead, BlankReport, OneByte, Start}
 use Rattle.rules.specs.Result.{Board, Result, reply, Outcome, Done, Started}
 use Rattle.rules.specs.Commands.{stall, obeyForm}
 pub use Rattle.rules.specs.declared.request.Request.{Request}
@@ -52,9 +52,9 @@ requestOf setup = if eqb (wIndex setup) 0 then requestRow (highFirst setup 0) se
 
 -- ---- GETSTATUS, GETSTATE, CLRSTATUS, ABORT
 
--- P5 of 02: "With a count above 0, the first GETSTATUS in state 3": the board burns pages, and this is the first to ask
-abbrev pub burning : Session → Bool
-burning s = eqb (s .state) 3 && ltb 0 (s .busy)
+-- P5 of 02: "With a count above 0, the first GETSTATUS in state 3 reports state 4": whether the next GETSTATUS does
+abbrev pub reportsBusy : Session → Bool
+reportsBusy s = eqb (s .state) 3 && ltb 0 (s .busy)
 
 -- "State 3 becomes 5, 6 becomes 2, others stay"; P5 of 02: "the next one reports 5", which is the one in state 4
 abbrev pub settled : ℕ → ℕ
@@ -62,11 +62,11 @@ settled state = if eqb state 3 then 5 else if eqb state 4 then 5 else if eqb sta
 
 -- "the state entered"; P5 of 02: "the first GETSTATUS in state 3 reports state 4 .. and moves there"
 abbrev pub entered : Session → ℕ
-entered s = if burning s then 4 else settled (s .state)
+entered s = if reportsBusy s then 4 else settled (s .state)
 
 -- P5 of 02: "with ten milliseconds a page .. ; the next one reports 5 with timeout zero"; elsewhere 01's "three zero bytes"
 abbrev pub timeout : Session → ℕ
-timeout s = if burning s then 10 * s .busy else 0
+timeout s = if reportsBusy s then 10 * s .busy else 0
 
 -- P5 of 02: "in its three timeout bytes, low byte first"
 abbrev pub timeoutBytes : ℕ → List ℕ
@@ -89,7 +89,7 @@ getState b = reply (b .config) Done (b .session .state ∷ []) (b .session)
 -- "CLRSTATUS in 10, ABORT in 2, 3, 5, 6, 9: state 2, status 00h, nothing pending. Elsewhere they stall.", by the busy count that each
 -- leaves
 abbrev pub clearIn : List ℕ → ℕ → Board → Result
-clearIn states busy b = if among (b .session .state) states then reply (b .config) Done [] (cleared busy) else stall b
+clearIn states busy b = if among (b .session .state) states then reply (b .config) Done [] (idleWith busy) else stall b
 
 abbrev pub clrStates : List ℕ
 clrStates = 10 ∷ []
@@ -98,7 +98,7 @@ clrStates = 10 ∷ []
 abbrev pub clrStatus : Board → Result
 clrStatus b = clearIn clrStates (b .session .busy) b
 
--- P5 of 02: "In state 4 GETSTATE, GETSTATUS and ABORT work and the rest stalls."
+-- P5 of 02: "In state 4 .. ABORT work"
 abbrev pub abortStates : List ℕ
 abortStates = 2 ∷ 3 ∷ 4 ∷ 5 ∷ 6 ∷ 9 ∷ []
 

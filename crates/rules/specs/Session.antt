@@ -11,12 +11,12 @@ abbrev pub session : ℕ → ℕ → Pending → ℕ → Session
 session state status p busy = record { state = state; status = status; pending = p; busy = busy }
 
 -- "state 2, status 00h, nothing pending": CLRSTATUS, ABORT and power-up, by the busy count that they leave
-abbrev pub cleared : ℕ → Session
-cleared busy = session 2 0x00 Nothing busy
+abbrev pub idleWith : ℕ → Session
+idleWith busy = session 2 0x00 Nothing busy
 
 -- the same with no page to wait for: after ABORT and power-up
 abbrev pub idle : Session
-idle = cleared 0
+idle = idleWith 0
 
 -- "start by reset, or at address": 04h, 03h, 00h and 04h, 03h, 01h
 abbrev pub startNumber : StartKind → ℕ

@@ -3,7 +3,7 @@
 use crate::layout;
 use crate::make;
 use crate::random::Random;
-use crate::sequence::{Fill, Sequence, Step};
+use crate::sequence::{Fill, Sequence, Step, IDLE};
 use second::{Memory, Pending, Session, StartKind};
 
 /// The index of SSB: its place in a configuration, and the byte of the number that it stands in.
@@ -11,13 +11,11 @@ pub const SSB: usize = 5;
 /// Values for SSB: two that a cell of the table of levels has, and three that none has.
 const WRITTEN: [u8; 5] = [0xFF, 0xFE, 0xFC, 0xFD, 0x00];
 /// A place that both memories have. Start mod 32 and mod 128 are equal there: who pads wrongly is to be found in the sequences.
-const PLACE: (u16, u16) = (0x010F, 0x0110);
-const WHOLE: (u16, u16) = (0x0000, 0x7FFF);
-/// The session after power-up.
-pub const IDLE: u64 = 2;
+pub const PLACE: (u16, u16) = (0x010F, 0x0110);
+pub const WHOLE: (u16, u16) = (0x0000, 0x7FFF);
 /// The states in which an UPLOAD can send, and how much is asked for.
 const SENDING: [(u8, usize); 4] = [(5, 1), (5, 1024), (9, 1), (9, 1024)];
-const PENDINGS: [Pending; 7] = [
+pub const PENDINGS: [Pending; 7] = [
     Pending::Nothing,
     Pending::Read { memory: Memory::Flash, start: PLACE.0, end: PLACE.1 },
     Pending::Read { memory: Memory::Eeprom, start: PLACE.0, end: PLACE.1 },
@@ -41,7 +39,7 @@ fn commands(random: &mut Random, ssb: u8) -> Vec<Vec<u8>> {
     list
 }
 
-/// The board of this SSB before each: a command in state 2 with the GETSTATUS and the UPLOAD that follow it, and an UPLOAD of all
+/// The board of this SSB before each: a command in state 2 with the two GETSTATUS and the UPLOAD that follow it, and an UPLOAD of all
 /// that can be pending.
 pub fn sequence(ssb: u8) -> Sequence {
     let mut random = Random::new(Random::seed_of(u64::from(ssb), 0));
@@ -51,13 +49,13 @@ pub fn sequence(ssb: u8) -> Sequence {
     let mut steps = Vec::new();
     for (state, length) in SENDING {
         for pending in PENDINGS {
-            let session = layout::pack_session(&Session { state, status: 0, pending });
+            let session = layout::pack_session(&Session { state, status: 0, pending, busy: 0 });
             steps.extend([Step::Config(config), Step::Session(session), Step::Ask(make::upload(&mut random, length))]);
         }
     }
     for command in commands(&mut random, ssb) {
-        steps.extend([Step::Config(config), Step::Session(IDLE), Step::Ask(make::download(&mut random, command))]);
-        steps.extend([Step::Ask(make::get_status()), Step::Ask(make::upload(&mut random, 1024))]);
+        steps.extend([Step::Config(config), Step::PowerUp, Step::Ask(make::download(&mut random, command))]);
+        steps.extend([make::get_status(), make::get_status(), make::upload(&mut random, 1024)].map(Step::Ask));
     }
-    Sequence { session: IDLE, config, fill: Fill::Any(random.next()), steps }
+    Sequence { session: IDLE, busy: 0, config, fill: Fill::Any(random.next()), steps }
 }

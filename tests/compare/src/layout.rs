@@ -23,12 +23,14 @@ pub fn pending_words(pending: Pending) -> [u16; 3] {
     }
 }
 
+/// The number of a session, which has no room for its busy count.
 pub fn pack_session(session: &Session) -> u64 {
     let [kind, first, last] = pending_words(session.pending);
     packed([u16::from_le_bytes([session.state, session.status]), kind, first, last])
 }
 
-pub fn session(n: u64) -> Session {
+/// The session of a number and a busy count.
+pub fn session(n: u64, busy: u16) -> Session {
     let [head, kind, first, last] = words(n);
     let [state, status] = head.to_le_bytes();
     let pending = match kind {
@@ -40,7 +42,7 @@ pub fn session(n: u64) -> Session {
         6 => Pending::Start { kind: StartKind::Jump, address: first },
         _ => Pending::Nothing,
     };
-    Session { state, status, pending }
+    Session { state, status, pending, busy }
 }
 
 pub fn pack_config(config: &Config) -> u64 {

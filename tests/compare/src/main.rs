@@ -1,10 +1,11 @@
 //! Compares the loader, through the functions that crates/exports exports, with the second program.
 //!
 //! `compare [SEQUENCES [SEED [BENCH...]]]`: program transfers to both memories at the same addresses, a board of every SSB value, blank
-//! checks at the edges of pages, the serial plug, then so many sequences and as many jobs; BENCH are the words that start our bench
-//! program.
+//! checks at the edges of pages, every state with busy counts, the serial plug, then so many sequences and as many jobs; BENCH are the
+//! words that start our bench program.
 //! It prints how often each thing was reached, and fails at the first difference, or if something was not reached.
 
+mod busy;
 mod commands;
 mod every_ssb;
 mod jobs;
@@ -21,12 +22,12 @@ mod tally;
 use commands::Writing;
 use jobs::Bench;
 use random::Random;
-use sequence::{Pair, Sequence, Step};
+use sequence::{Pair, Request, Sequence, Step};
 use std::process::ExitCode;
 use tally::Tally;
 
 const SEQUENCES: u64 = 5_200;
-const STEPS: usize = 42;
+const STEPS: usize = 46;
 /// Writer runs of any numbers in each sequence, besides those of what was read.
 const WRITINGS: usize = 4;
 
@@ -36,9 +37,12 @@ fn main() -> ExitCode {
     let (sequences, seed) = (number(0, SEQUENCES), number(1, 1));
     let mut bench = Bench::new(words.get(2..).unwrap_or(&[]));
     println!("compare: {sequences} sequences and jobs from seed {seed}");
-    let (mut tally, mut records) = (Tally::default(), serial::Tally::default());
+    let (mut tally, mut busy, mut records) = (Tally::default(), Tally::default(), serial::Tally::default());
     let on_plug = |what| format!("on the serial plug\n{what}");
-    if let Some(what) = boards(&mut tally).or_else(|| serial::difference(sequences, seed, &mut records).map(on_plug)) {
+    let found = first(boards(), &mut tally)
+        .or_else(|| first(busy::boards(), &mut busy))
+        .or_else(|| serial::difference(sequences, seed, &mut records).map(on_plug));
+    if let Some(what) = found {
         println!("DIFFERENCE {what}");
         return ExitCode::FAILURE;
     }
@@ -59,7 +63,10 @@ fn main() -> ExitCode {
         "compare: {} requests, {} jobs, {} of them through both bench programs, {} records of the serial plug, no difference",
         tally.requests, tally.jobs, tally.bench_runs, records.records
     );
-    let missed = [tally.report(), records.report()].concat();
+    let mut missed = tally.report();
+    println!("compare: {} requests in every state with busy counts, no difference", busy.requests);
+    missed.extend(busy.report_busy());
+    missed.extend(records.report());
     if !missed.is_empty() {
         println!("NOT REACHED: {}", missed.join(", "));
         return ExitCode::FAILURE;
@@ -68,13 +75,18 @@ fn main() -> ExitCode {
 }
 
 /// The boards of each level with both memories programmed, those of every SSB value, and those with a byte at an edge of a page.
-fn boards(tally: &mut Tally) -> Option<String> {
+fn boards() -> impl Iterator<Item = (String, Sequence)> {
     let apart = memories_apart::LEVELS
         .iter()
         .map(|&ssb| (format!("with both memories programmed at SSB {ssb:02X}h"), memories_apart::sequence(ssb)));
     let every_ssb = (0..=255).map(|ssb| (format!("at SSB {ssb:02X}h"), every_ssb::sequence(ssb)));
     let page_edges = page_edges::PLACES.iter().map(|&used| (format!("with a byte at {used:04X}h"), page_edges::sequence(used)));
-    apart.chain(every_ssb).chain(page_edges).find_map(|(place, sequence)| {
+    apart.chain(every_ssb).chain(page_edges)
+}
+
+/// The first difference on these boards.
+fn first(mut boards: impl Iterator<Item = (String, Sequence)>, tally: &mut Tally) -> Option<String> {
+    boards.find_map(|(place, sequence)| {
         sequence.run(tally)?;
         Some(format!("{place}\n{}", told(&shrink::sequence(sequence))))
     })
@@ -83,7 +95,7 @@ fn boards(tally: &mut Tally) -> Option<String> {
 /// One sequence of requests, the payloads in it through reader and writer, and one job.
 fn one(random: &mut Random, bench: &mut Bench, tally: &mut Tally) -> Option<String> {
     let mut sequence = make::board(random);
-    let mut pair = Pair::new(sequence.session, sequence.config, sequence.fill);
+    let mut pair = Pair::new(&sequence);
     for _ in 0..STEPS {
         let step = make::step(random, &pair.second.session);
         sequence.steps.push(step.clone());
@@ -133,17 +145,22 @@ fn hex(bytes: &[u8]) -> String {
     bytes.iter().map(|byte| format!("{byte:02X}")).collect()
 }
 
+/// What a step was and in which state it came.
+fn place(step: &Step, state: u8) -> String {
+    let Step::Ask(Request { setup, data, .. }) = step else { return "at power-up: ".into() };
+    match (tally::request_name(setup), &data[..]) {
+        ("DNLOAD", [1, ..]) => "in a program transfer: ".into(),
+        ("DNLOAD", [3, 1, ..]) => "in a blank check: ".into(),
+        (name, _) => format!("{name} in state {state}: "),
+    }
+}
+
 /// The smallest sequence in words.
 fn told(sequence: &Sequence) -> String {
-    let (at, what) = sequence.run(&mut Tally::default()).unwrap_or_default();
-    let transfer = match sequence.steps.get(at) {
-        Some(Step::Ask(request)) => request.setup.starts_with(&[0x21, 1]) && request.data.first() == Some(&1),
-        _ => false,
-    };
-    let place = if transfer { "in a program transfer: " } else { "" };
-    let mut text =
-        format!("board: session {:X}h, configuration {:X}h, memories {:?}\n", sequence.session, sequence.config, sequence.fill);
-    for step in &sequence.steps {
+    let found = sequence.run(&mut Tally::default()).expect("it shows a difference");
+    let Sequence { session, busy, config, fill, steps } = sequence;
+    let mut text = format!("board: session {session:X}h, busy count {busy}, configuration {config:X}h, memories {fill:?}\n");
+    for step in steps {
         text += &match step {
             Step::Ask(request) => format!(
                 "request: setup {}, data {}, flash {}, EEPROM {}, reply {}\n",
@@ -155,8 +172,9 @@ fn told(sequence: &Sequence) -> String {
             ),
             Step::PowerUp => "power-up\n".into(),
             Step::Session(n) => format!("session set to {n:X}h\n"),
+            Step::Busy(n) => format!("busy count set to {n}\n"),
             Step::Config(n) => format!("configuration set to {n:X}h\n"),
         };
     }
-    text + place + &what
+    text + &place(&steps[found.at], found.session.state) + &found.what
 }

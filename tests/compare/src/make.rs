@@ -2,7 +2,7 @@
 
 use crate::every_ssb::SSB;
 use crate::random::Random;
-use crate::sequence::{Fill, Request, Second, Sequence, Step, EEPROM, FLASH, REPLY, ROOM};
+use crate::sequence::{Fill, Request, Second, Sequence, Step, EEPROM, FLASH, IDLE, REPLY, ROOM};
 use crate::tally::STATES;
 use second::{Config, Pending, Session};
 
@@ -12,6 +12,8 @@ const EDGES: [u16; 24] = [
     0x7BFF, 0x7C00, 0x7F80, 0x7FFE, 0x7FFF, 0x8000, 0xFFFE, 0xFFFF,
 ];
 const COUNTS: [u16; 14] = [1, 2, 3, 16, 17, 127, 128, 129, 300, 640, 896, 1023, 1024, 1025];
+/// A busy count above this is refused.
+pub const MOST_BUSY: u16 = 256;
 /// Mostly level 0, at which most commands are taken. `every_ssb` goes through the rest.
 const SSB_VALUES: [u8; 8] = [0xFF, 0xFF, 0xFF, 0xFF, 0xFE, 0xFC, 0xFD, 0x00];
 
@@ -140,8 +142,13 @@ pub fn upload(random: &mut Random, length: usize) -> Request {
     request_of(setup(0xA1, 2, value, length), vec![])
 }
 
+/// A request without data.
+pub fn bare(kind: u8, request: u8, length: usize) -> Request {
+    request_of(setup(kind, request, 0, length), vec![])
+}
+
 pub fn get_status() -> Request {
-    request_of(setup(0xA1, 3, 0, 6), vec![])
+    bare(0xA1, 3, 6)
 }
 
 /// How much an UPLOAD asks for.
@@ -160,8 +167,8 @@ fn upload_length(random: &mut Random) -> usize {
 fn plain(random: &mut Random, session: &Session) -> Request {
     let kind = match (session.state, session.pending) {
         (10, _) if random.chance(45) => 10,
-        (3, _) if random.chance(60) => 0,
-        (6, _) if random.chance(60) => 0,
+        (3 | 6, _) if random.chance(60) => 0,
+        (4, _) if random.chance(40) => 0,
         (3 | 5, Pending::Start { .. }) if random.chance(40) => 12,
         (5 | 9, Pending::Nothing) => random.below(22),
         (5 | 9, _) if random.chance(60) => 14,
@@ -170,10 +177,10 @@ fn plain(random: &mut Random, session: &Session) -> Request {
     };
     match kind {
         0..=5 => get_status(),
-        6..=7 => request_of(setup(0xA1, 5, 0, 1), vec![]),
-        8 => request_of(setup(0x21, 6, 0, 0), vec![]),
-        9..=10 => request_of(setup(0x21, 4, 0, 0), vec![]),
-        11 => request_of(setup(0x21, 0, 0, 0), vec![]),
+        6..=7 => bare(0xA1, 5, 1),
+        8 => bare(0x21, 6, 0),
+        9..=10 => bare(0x21, 4, 0),
+        11 => bare(0x21, 0, 0),
         12 => download(random, vec![]),
         13..=15 => {
             let length = upload_length(random);
@@ -222,7 +229,18 @@ pub fn request(random: &mut Random, session: &Session) -> Request {
     request
 }
 
-/// A session of any numbers, many of them right.
+/// A busy count, mostly one that is not refused.
+pub fn busy(random: &mut Random) -> u16 {
+    match random.below(20) {
+        0..=6 => 0,
+        7..=13 => random.of(&[1, 9, 128, 256]),
+        14..=16 => random.below(usize::from(MOST_BUSY) + 1) as u16,
+        17..=18 => random.of(&[257, 65_535]),
+        _ => random.word(),
+    }
+}
+
+/// A session of any numbers but its busy count, many of them right.
 pub fn session(random: &mut Random) -> u64 {
     if random.chance(5) {
         return random.next();
@@ -245,11 +263,14 @@ pub fn config(random: &mut Random) -> u64 {
 /// What comes next on a board.
 pub fn step(random: &mut Random, session_now: &Session) -> Step {
     let running = session_now.state == 0 && random.chance(70);
+    let refused = session_now.busy > MOST_BUSY && random.chance(50);
     match random.below(100) {
         _ if running => Step::PowerUp,
+        _ if refused => Step::Busy(busy(random)),
         0..=3 => Step::Session(session(random)),
         4..=5 => Step::Config(config(random)),
         6 => Step::PowerUp,
+        7..=10 => Step::Busy(busy(random)),
         _ => Step::Ask(request(random, session_now)),
     }
 }
@@ -263,7 +284,8 @@ pub fn board(random: &mut Random) -> Sequence {
     };
     let delivered = crate::layout::pack_config(&Config::DELIVERED);
     Sequence {
-        session: if random.chance(50) { 2 } else { session(random) },
+        session: if random.chance(50) { IDLE } else { session(random) },
+        busy: if random.chance(50) { 0 } else { busy(random) },
         config: if random.chance(60) { delivered } else { config(random) },
         fill,
         steps: vec![],
@@ -273,7 +295,7 @@ pub fn board(random: &mut Random) -> Sequence {
 /// The requests of a job, each as setup and data, that make sense one after another on a delivered board.
 pub fn job_requests(random: &mut Random, count: usize) -> Vec<(Vec<u8>, Vec<u8>)> {
     let delivered = crate::layout::pack_config(&Config::DELIVERED);
-    let mut board = Second::new(2, delivered, Fill::Blank);
+    let mut board = Second::new(IDLE, 0, delivered, Fill::Blank);
     let mut requests = Vec::new();
     while requests.len() < count {
         let mut next = request(random, &board.session);

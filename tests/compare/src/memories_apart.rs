@@ -2,11 +2,11 @@
 //! too, of the right length and of a byte less or more. What is programmed into one memory must not stand in the other, and each memory
 //! has its own end.
 
-use crate::every_ssb::{IDLE, SSB};
+use crate::every_ssb::SSB;
 use crate::layout;
 use crate::make;
 use crate::random::Random;
-use crate::sequence::{Fill, Sequence, Step};
+use crate::sequence::{Fill, Sequence, Step, IDLE};
 use second::Config;
 
 /// The SSB of each level.
@@ -30,7 +30,7 @@ fn transfer(random: &mut Random, code: u8, (start, end): (u16, u16), more: usize
     data
 }
 
-/// The board of this SSB before each transfer.
+/// The board of this SSB after power-up, before each transfer.
 pub fn sequence(ssb: u8) -> Sequence {
     let mut random = Random::new(Random::seed_of(u64::from(ssb), 4));
     let mut config = Config::DELIVERED;
@@ -39,8 +39,8 @@ pub fn sequence(ssb: u8) -> Sequence {
     for (start, end) in PLACES.iter().flat_map(|&start| PLACES.map(|end| (start, end))) {
         for (code, more) in CODES.iter().flat_map(|&code| [0, 1, 2].map(|more| (code, more))) {
             let data = transfer(&mut random, code, (start, end), more);
-            steps.extend([Step::Session(IDLE), Step::Ask(make::download(&mut random, data))]);
+            steps.extend([Step::PowerUp, Step::Ask(make::download(&mut random, data))]);
         }
     }
-    Sequence { session: IDLE, config: layout::pack_config(&config), fill: Fill::Any(random.next()), steps }
+    Sequence { session: IDLE, busy: 0, config: layout::pack_config(&config), fill: Fill::Any(random.next()), steps }
 }

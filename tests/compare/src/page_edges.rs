@@ -2,11 +2,10 @@
 //! byte at one of them and, where the flash has it, one a little further on. A byte outside the range, in the page that the range begins or
 //! ends in, must not decide.
 
-use crate::every_ssb::IDLE;
 use crate::layout;
 use crate::make;
 use crate::random::Random;
-use crate::sequence::{Fill, Sequence, Step, FLASH};
+use crate::sequence::{Fill, Sequence, Step, FLASH, IDLE};
 use second::Config;
 
 /// At the edges of the first two pages, of one in the middle and of the last, and one place inside each.
@@ -34,9 +33,9 @@ pub fn sequence(used: u16) -> Sequence {
     for (at, &start) in PLACES.iter().enumerate() {
         for &end in &PLACES[at..] {
             let check = make::download(&mut random, make::ranged(3, 1, (start, end)));
-            steps.extend([Step::Session(IDLE), Step::Ask(check)]);
+            steps.extend([Step::PowerUp, Step::Ask(check)]);
             steps.extend([Step::Ask(make::get_status()), Step::Ask(make::upload(&mut random, 2))]);
         }
     }
-    Sequence { session: IDLE, config: layout::pack_config(&Config::DELIVERED), fill: Fill::Used(used), steps }
+    Sequence { session: IDLE, busy: 0, config: layout::pack_config(&Config::DELIVERED), fill: Fill::Used(used), steps }
 }

@@ -5,6 +5,8 @@ use crate::random::Random;
 use crate::tally::Tally;
 use second::{Config, Outcome, Session};
 
+/// The session after power-up; its busy count is 0.
+pub const IDLE: u64 = 2;
 pub const FLASH: usize = 32_768;
 pub const EEPROM: usize = 1_024;
 pub const REPLY: usize = 1_024;
@@ -34,14 +36,16 @@ pub struct Request {
 pub enum Step {
     Ask(Request),
     PowerUp,
-    /// The session, or the configuration, is set to any number.
+    /// The session but for its busy count, that count, or the configuration is set to any number.
     Session(u64),
+    Busy(u16),
     Config(u64),
 }
 
 #[derive(Clone, Debug, PartialEq)]
 pub struct Sequence {
     pub session: u64,
+    pub busy: u16,
     pub config: u64,
     pub fill: Fill,
     pub steps: Vec<Step>,
@@ -50,6 +54,7 @@ pub struct Sequence {
 /// Both boards, alike before every step.
 pub struct Pair {
     session: u64,
+    busy: u16,
     config: u64,
     flash: Vec<u8>,
     eeprom: Vec<u8>,
@@ -67,7 +72,7 @@ pub struct Second {
 
 impl Second {
     /// A board with room beyond its memories.
-    pub fn new(session: u64, config: u64, fill: Fill) -> Second {
+    pub fn new(session: u64, busy: u16, config: u64, fill: Fill) -> Second {
         let (mut flash, mut eeprom) = (vec![0xFF; FLASH + ROOM], vec![0xFF; EEPROM + ROOM]);
         match fill {
             Fill::Blank => {}
@@ -80,7 +85,7 @@ impl Second {
             }
         }
         let reply = (0..REPLY + ROOM).map(|i| i as u8 ^ 0xA5).collect();
-        Second { session: layout::session(session), config: layout::config(config), flash, eeprom, reply }
+        Second { session: layout::session(session, busy), config: layout::config(config), flash, eeprom, reply }
     }
 
     pub fn ask(&mut self, request: &Request) -> second::Answer {
@@ -107,10 +112,12 @@ pub fn number(name: &str, ours: u64, second: u64) -> Option<String> {
 }
 
 impl Pair {
-    pub fn new(session: u64, config: u64, fill: Fill) -> Pair {
-        let second = Second::new(session, config, fill);
+    /// A sequence's boards before its first step.
+    pub fn new(sequence: &Sequence) -> Pair {
+        let &Sequence { session, busy, config, fill, .. } = sequence;
+        let second = Second::new(session, busy, config, fill);
         let (flash, eeprom, reply) = (second.flash.clone(), second.eeprom.clone(), second.reply.clone());
-        Pair { session, config, flash, eeprom, reply, second }
+        Pair { session, busy, config, flash, eeprom, reply, second }
     }
 
     /// Takes one step with both, and gives the first difference.
@@ -120,12 +127,18 @@ impl Pair {
         match step {
             Step::Ask(request) => return self.ask(request, tally),
             Step::PowerUp => {
-                self.session = exports::power_up();
+                tally.power_up(&self.second.session);
+                (self.session, self.busy) = exports::power_up();
                 second::power_up(&mut self.second.session);
             }
             Step::Session(n) => {
                 self.session = *n;
-                self.second.session = layout::session(*n);
+                self.second.session = layout::session(*n, self.second.session.busy);
+                return None;
+            }
+            Step::Busy(n) => {
+                self.busy = *n;
+                self.second.session.busy = *n;
                 return None;
             }
             Step::Config(n) => {
@@ -137,15 +150,17 @@ impl Pair {
         self.boards(self.packed())
     }
 
-    /// The second program's session and configuration as numbers.
-    fn packed(&self) -> (u64, u64) {
-        (layout::pack_session(&self.second.session), layout::pack_config(&self.second.config))
+    /// The second program's session, busy count and configuration as numbers.
+    fn packed(&self) -> (u64, u16, u64) {
+        let Second { session, config, .. } = &self.second;
+        (layout::pack_session(session), session.busy, layout::pack_config(config))
     }
 
     fn ask(&mut self, request: &Request, tally: &mut Tally) -> Option<String> {
-        let lent = (self.session, self.config);
+        let lent = (self.session, self.busy, self.config);
         let (outcome, count, pages) = exports::step(
             &mut self.session,
+            &mut self.busy,
             &mut self.config,
             &request.setup,
             &request.data,
@@ -163,10 +178,11 @@ impl Pair {
             .or_else(|| self.boards(expected))
     }
 
-    /// Session, configuration, and every byte of the reply and both memories.
-    fn boards(&self, (session, config): (u64, u64)) -> Option<String> {
+    /// Session, busy count, configuration, and every byte of the reply and both memories.
+    fn boards(&self, (session, busy, config): (u64, u16, u64)) -> Option<String> {
         let second = &self.second;
         number("session", self.session, session)
+            .or_else(|| number("busy count", self.busy.into(), busy.into()))
             .or_else(|| number("configuration", self.config, config))
             .or_else(|| place("reply", &self.reply, &second.reply))
             .or_else(|| place("flash", &self.flash, &second.flash))
@@ -174,10 +190,20 @@ impl Pair {
     }
 }
 
+/// Where a sequence first differs: the place of the step, the second program's session before it, and the difference.
+pub struct Difference {
+    pub at: usize,
+    pub session: Session,
+    pub what: String,
+}
+
 impl Sequence {
-    /// Runs it through both: the place of the step with the first difference, and the difference.
-    pub fn run(&self, tally: &mut Tally) -> Option<(usize, String)> {
-        let mut pair = Pair::new(self.session, self.config, self.fill);
-        self.steps.iter().enumerate().find_map(|(at, step)| pair.take(step, tally).map(|what| (at, what)))
+    /// Runs it through both.
+    pub fn run(&self, tally: &mut Tally) -> Option<Difference> {
+        let mut pair = Pair::new(self);
+        self.steps.iter().enumerate().find_map(|(at, step)| {
+            let session = pair.second.session;
+            pair.take(step, tally).map(|what| Difference { at, session, what })
+        })
     }
 }

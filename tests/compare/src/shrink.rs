@@ -1,13 +1,13 @@
 //! The smallest input that still shows a difference.
 
-use crate::sequence::{Fill, Request, Sequence, Step};
+use crate::sequence::{Fill, Request, Sequence, Step, IDLE};
 use crate::tally::Tally;
 
 /// Leaves out steps and shortens data as long as a difference is left.
 pub fn sequence(mut found: Sequence) -> Sequence {
     loop {
-        let (at, _) = found.run(&mut Tally::default()).expect("it shows a difference");
-        found.steps.truncate(at + 1);
+        let difference = found.run(&mut Tally::default()).expect("it shows a difference");
+        found.steps.truncate(difference.at + 1);
         match candidates(&found).into_iter().find(|smaller| smaller.run(&mut Tally::default()).is_some()) {
             Some(smaller) => found = smaller,
             None => return found,
@@ -29,8 +29,9 @@ fn candidates(found: &Sequence) -> Vec<Sequence> {
     }
     let delivered = crate::layout::pack_config(&second::Config::DELIVERED);
     let last = found.steps[count - 1..].to_vec();
-    list.push(Sequence { session: 2, config: delivered, fill: Fill::Blank, steps: last });
-    list.push(Sequence { session: 2, ..found.clone() });
+    list.push(Sequence { session: IDLE, busy: 0, config: delivered, fill: Fill::Blank, steps: last });
+    list.push(Sequence { session: IDLE, ..found.clone() });
+    list.push(Sequence { busy: 0, ..found.clone() });
     list.push(Sequence { config: delivered, ..found.clone() });
     list.push(Sequence { fill: Fill::Blank, ..found.clone() });
     for (at, step) in found.steps.iter().enumerate() {

@@ -2,11 +2,12 @@
 
 use crate::every_ssb::SSB;
 use crate::layout::{pack_command, pending_words};
+use crate::make::MOST_BUSY;
 use crate::sequence::Request;
 use second::{Answer, Command, Config, Level, Outcome, Reading, Session, StartKind};
 use std::collections::{BTreeMap, BTreeSet};
 
-pub const STATES: [u8; 7] = [0, 2, 3, 5, 6, 9, 10];
+pub const STATES: [u8; 8] = [0, 2, 3, 4, 5, 6, 9, 10];
 const PENDING: [&str; 7] =
     ["nothing", "flash read", "EEPROM read", "blank report", "one byte", "start by reset", "start at address"];
 const COMMANDS: [&str; 16] = [
@@ -29,6 +30,30 @@ const COMMANDS: [&str; 16] = [
 ];
 const OF_SSB: [&str; 2] = ["write SSB", "read SSB"];
 const LEVELS: [&str; 3] = ["level 0", "level 1", "level 2"];
+/// Busy counts that are counted by themselves, before a request and after it.
+const LENT: [u16; 7] = [0, 1, 9, 128, 256, 257, 65_535];
+const LEFT: [u16; 6] = [0, 1, 9, 64, 128, 256];
+const OTHERS: [&str; 2] = ["another up to 256", "another above 256"];
+/// What a busy count above 0 meets: those that set it, that clear it, and that keep it.
+const MEETS: [&str; 16] = [
+    "command",
+    "GETSTATUS in 4",
+    "stall",
+    "stall in 10",
+    "ABORT",
+    "power-up",
+    "GETSTATUS in 3",
+    "GETSTATUS elsewhere",
+    "GETSTATE",
+    "CLRSTATUS",
+    "UPLOAD",
+    "empty DNLOAD",
+    "start by reset",
+    "start at address",
+    "error status",
+    "refusal",
+];
+const OUTCOMES: [&str; 4] = ["done", "stall", "start by reset", "start at address"];
 const REQUESTS: [&str; 8] = ["DETACH", "DNLOAD", "UPLOAD", "GETSTATUS", "CLRSTATUS", "GETSTATE", "ABORT", "other"];
 
 /// The most data of a DNLOAD that is looked at.
@@ -36,11 +61,14 @@ const MOST_DATA: usize = 1_103;
 /// How many values a byte has.
 const BYTES: usize = 256;
 
+/// Things of a kind that have to be reached.
+type Wanted = Vec<(&'static str, Vec<String>)>;
+
 #[derive(Default)]
 pub struct Tally {
     counts: BTreeMap<&'static str, BTreeMap<String, u64>>,
-    /// The board before the request: its state, what is pending, and its SSB.
-    before: (u8, usize, u8),
+    /// The board before the request: its state, what is pending, its busy count, and its SSB.
+    before: (u8, usize, u16, u8),
     /// The SSB values that each command and an UPLOAD of each thing pending met.
     ssb: BTreeMap<String, BTreeSet<u8>>,
     pub requests: u64,
@@ -56,9 +84,10 @@ impl Tally {
     pub fn before(&mut self, session: &Session, config: &Config) {
         let state = session.state;
         let pending = usize::from(pending_words(session.pending)[0]);
-        self.before = (state, pending, config.bytes[SSB]);
+        self.before = (state, pending, session.busy, config.bytes[SSB]);
         self.add("state before", if STATES.contains(&state) { state.to_string() } else { "none of these".into() });
         self.add("pending before", PENDING[pending]);
+        self.add("busy count before", busy_name(&LENT, session.busy));
         let level = match config.level() {
             Level::Zero => 0,
             Level::One => 1,
@@ -67,30 +96,40 @@ impl Tally {
         self.add("level", LEVELS[level]);
     }
 
+    pub fn power_up(&mut self, session: &Session) {
+        if session.busy > 0 {
+            self.add("busy count above 0 at", "power-up");
+        }
+    }
+
     pub fn after(&mut self, request: &Request, answer: &Answer, session: &Session) {
         self.requests += 1;
+        if self.before.2 > 0 {
+            self.add("busy count above 0 at", self.meets(request, answer, session));
+        }
         let outcome = match answer.outcome {
-            Outcome::Done => "done",
-            Outcome::Stall => "stall",
-            Outcome::Start { kind: StartKind::Reset, .. } => "start by reset",
-            Outcome::Start { kind: StartKind::Jump, .. } => "start at address",
             Outcome::Refused(number) => return self.add("refusal", number.to_string()),
+            _ => outcome_name(answer),
         };
         self.add("outcome", outcome);
         self.add("state after", session.state.to_string());
         self.add("status after", format!("{:02X}", session.status));
         self.add("pending after", PENDING[usize::from(pending_words(session.pending)[0])]);
+        self.add("busy count after", busy_name(&LEFT, session.busy));
         self.add("pages", answer.pages.to_string());
-        self.add("request", request_name(request));
+        self.add("request", request_name(&request.setup));
+        if self.before.0 == 4 {
+            self.add("asked in state 4", request_name(&request.setup));
+        }
         self.level_asked(request, answer.outcome == Outcome::Done && session.state == 3);
     }
 
     /// A command that a DNLOAD brings in a state that takes one, and what an UPLOAD finds pending in a state that sends: there the
     /// level is asked.
     fn level_asked(&mut self, request: &Request, accepted: bool) {
-        let (state, pending, ssb) = self.before;
+        let (state, pending, _, ssb) = self.before;
         let asked = request.setup[4..6] == [0, 0] && request.setup[6..] != [0, 0];
-        match (request_name(request), state) {
+        match (request_name(&request.setup), state) {
             ("DNLOAD", 2 | 5) if asked && request.data.len() <= MOST_DATA => {
                 if let Reading::Command(command, ..) = second::read_command(&request.data) {
                     let name = COMMANDS[pack_command(&command) as usize & 0xF];
@@ -107,22 +146,37 @@ impl Tally {
         }
     }
 
+    /// What a busy count above 0 meets.
+    fn meets(&self, request: &Request, answer: &Answer, session: &Session) -> &'static str {
+        match (answer.outcome, request_name(&request.setup), self.before.0) {
+            (Outcome::Stall, _, 10) => "stall in 10",
+            (Outcome::Done, "GETSTATUS", 3) => "GETSTATUS in 3",
+            (Outcome::Done, "GETSTATUS", 4) => "GETSTATUS in 4",
+            (Outcome::Done, "GETSTATUS", _) => "GETSTATUS elsewhere",
+            (Outcome::Done, "DNLOAD", _) if request.data.is_empty() => "empty DNLOAD",
+            (Outcome::Done, "DNLOAD", _) => ["error status", "command"][usize::from(session.state == 3)],
+            (Outcome::Done, name, _) => name,
+            _ => outcome_name(answer),
+        }
+    }
+
     /// What a run has to have reached.
-    fn wanted() -> Vec<(&'static str, Vec<String>)> {
-        let names = |list: &[&str]| list.iter().map(|name| name.to_string()).collect::<Vec<_>>();
-        let numbers = |list: &[usize]| list.iter().map(usize::to_string).collect::<Vec<_>>();
-        let states: Vec<String> = STATES.iter().map(u8::to_string).collect();
-        let mut before = states.clone();
+    fn wanted() -> Wanted {
+        let mut before = numbers(&STATES);
         before.push("none of these".into());
         vec![
-            ("outcome", names(&["done", "stall", "start by reset", "start at address"])),
+            ("outcome", names(&OUTCOMES)),
             ("refusal", numbers(&[1, 2, 3, 4, 5, 6, 7])),
             ("request", names(&REQUESTS)),
             ("state before", before),
-            ("state after", states),
+            ("state after", numbers(&STATES)),
             ("status after", (0..16).map(|status| format!("{status:02X}")).collect()),
             ("pending before", names(&PENDING)),
             ("pending after", names(&PENDING)),
+            ("busy count before", [numbers(&LENT), names(&OTHERS)].concat()),
+            ("busy count after", [numbers(&LEFT), names(&OTHERS[..1])].concat()),
+            ("busy count above 0 at", names(&MEETS)),
+            ("asked in state 4", names(&REQUESTS)),
             ("level", names(&LEVELS)),
             ("command accepted", names(&COMMANDS)),
             ("pages", numbers(&[0, 1, 2, 3, 4, 5, 6, 7, 8, 9, 64, 128, 256])),
@@ -132,17 +186,39 @@ impl Tally {
         ]
     }
 
+    /// What the run through every state with busy counts has to have reached.
+    fn wanted_of_busy() -> Wanted {
+        vec![
+            ("outcome", names(&OUTCOMES)),
+            ("refusal", numbers(&[6, 7])),
+            ("status after", names(&["00", "03", "05", "08", "0B", "0F"])),
+            ("busy count after", numbers(&LEFT)),
+            ("busy count above 0 at", names(&MEETS)),
+            ("asked in state 4", names(&REQUESTS)),
+            ("level", names(&LEVELS)),
+            ("command accepted", names(&COMMANDS)),
+            ("pages", numbers(&[0, 1, 9, 64, 128, 256])),
+        ]
+    }
+
     /// Prints every count, and gives what was wanted and not reached.
     pub fn report(&self) -> Vec<String> {
+        [self.missed(Tally::wanted()), self.missed_ssb()].concat()
+    }
+
+    pub fn report_busy(&self) -> Vec<String> {
+        self.missed(Tally::wanted_of_busy())
+    }
+
+    fn missed(&self, wanted: Wanted) -> Vec<String> {
         let mut missed = Vec::new();
-        for (kind, names) in Tally::wanted() {
+        for (kind, names) in wanted {
             let found = self.counts.get(kind);
             let count = |name: &String| found.and_then(|found| found.get(name)).copied().unwrap_or(0);
             let line: Vec<String> = names.iter().map(|name| format!("{name}: {}", count(name))).collect();
             println!("  {kind}: {}", line.join(", "));
             missed.extend(names.iter().filter(|&name| count(name) == 0).map(|name| format!("{kind} {name}")));
         }
-        missed.extend(self.missed_ssb());
         missed
     }
 
@@ -170,16 +246,41 @@ fn upload_of(pending: &str) -> String {
     format!("UPLOAD of {pending}")
 }
 
-fn request_name(request: &Request) -> &'static str {
-    let code = (request.setup[0], request.setup[1]);
-    match code {
-        (0x21, 0) => "DETACH",
-        (0x21, 1) => "DNLOAD",
-        (0xA1, 2) => "UPLOAD",
-        (0xA1, 3) => "GETSTATUS",
-        (0x21, 4) => "CLRSTATUS",
-        (0xA1, 5) => "GETSTATE",
-        (0x21, 6) => "ABORT",
+fn outcome_name(answer: &Answer) -> &'static str {
+    match answer.outcome {
+        Outcome::Done => OUTCOMES[0],
+        Outcome::Stall => OUTCOMES[1],
+        Outcome::Start { kind: StartKind::Reset, .. } => OUTCOMES[2],
+        Outcome::Start { kind: StartKind::Jump, .. } => OUTCOMES[3],
+        Outcome::Refused(_) => "refusal",
+    }
+}
+
+/// A busy count, by itself where it is one of these.
+fn busy_name(these: &[u16], busy: u16) -> String {
+    if these.contains(&busy) {
+        return busy.to_string();
+    }
+    OTHERS[usize::from(busy > MOST_BUSY)].into()
+}
+
+pub fn request_name(setup: &[u8]) -> &'static str {
+    match setup {
+        [0x21, 0, ..] => "DETACH",
+        [0x21, 1, ..] => "DNLOAD",
+        [0xA1, 2, ..] => "UPLOAD",
+        [0xA1, 3, ..] => "GETSTATUS",
+        [0x21, 4, ..] => "CLRSTATUS",
+        [0xA1, 5, ..] => "GETSTATE",
+        [0x21, 6, ..] => "ABORT",
         _ => "other",
     }
+}
+
+fn names(list: &[&str]) -> Vec<String> {
+    list.iter().map(|name| name.to_string()).collect()
+}
+
+fn numbers<T: ToString>(list: &[T]) -> Vec<String> {
+    list.iter().map(T::to_string).collect()
 }
