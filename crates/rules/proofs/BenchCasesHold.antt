@@ -64,11 +64,11 @@ waits b k six v w hf he s some-pages few q =
     let here : b ≡ board (session 3 0x00 Nothing k) c f e = ap (λ x. board x c f e) s in
     let first : step b (askStatus v) ≡ reply c Done six (session 4 0x00 Nothing k) =
     ap (λ x. step x (askStatus v)) here
-    ∙ statusOf (session 3 0x00 Nothing k) c f e hf he most refl v
+    ∙ statusOf (session 3 0x00 Nothing k) c f e hf he (rw most) refl v
     ∙ rw (above, q) in
     record {
       first = first;
-      second = ap (λ x. step (next b x) (askStatus w)) first ∙ statusOf (session 4 0x00 Nothing k) c f e hf he most refl w;
+      second = ap (λ x. step (next b x) (askStatus w)) first ∙ statusOf (session 4 0x00 Nothing k) c f e hf he (rw most) refl w;
     }
 
 -- ---- program transfers (cases 2, 6 and 7)

@@ -201,8 +201,8 @@ pub busy-admitted : BusyAdmitted
 unfolding refusal
 busy-admitted = record {
   refuses = λ b setup d n h.
-      let head : Bool = not (knownState (b .session .state)) || ltb 0x0F (b .session .status) || badPending (b .session .pending) in
-      let bad : badSession (b .session) ≡ true = rw (lt-ltb 256 (b .session .busy) h) (or-true head) in
+      let head : Bool = not (knownState (b .session .state)) || ltb 0x0F (b .session .status) in
+      let bad : badSession (b .session) ≡ true = rw (lt-ltb 256 (b .session .busy) h, or-true head) in
       rw bad (one-to-six (eqb (length setup) 8) (eqb (length (b .flash)) flashSize) (eqb (length (b .eeprom)) eepromSize) (badData setup d)
       (ltb n replySize) (if eqb (b .session .state) 0 then 7 else 0));
   admits = λ s four status pending few. rw (four, le-ltb 0x0F (s .status) status, pending, le-ltb 256 (s .busy) few);

@@ -56,13 +56,13 @@ unrefused b setup d n q =
     let head : Bool = not (knownState (s .state)) || ltb 0x0F (s .status) in
     let h = passed (eqb (length setup) 8) (eqb (length (b .flash)) flashSize) (eqb (length (b .eeprom)) eepromSize) (badData setup d)
     (ltb n replySize) (badSession s) _ q in
-    let right = or-false (head || badPending (s .pending)) (ltb mostBusy (s .busy)) (h .3) in
+    let right = or-false (head || ltb mostBusy (s .busy)) (badPending (s .pending)) (h .3) in
     record {
       flash-size = eqb-true _ flashSize (h .0);
       eeprom-size = eqb-true _ eepromSize (h .1);
       room = ltb-false n replySize (h .2);
-      pending-right = or-false head (badPending (s .pending)) (right .0) .1;
-      few-busy = ltb-false mostBusy (s .busy) (right .1);
+      pending-right = right .1;
+      few-busy = ltb-false mostBusy (s .busy) (or-false head (ltb mostBusy (s .busy)) (right .0) .1);
     }
 
 -- a result that stores nothing; one that also sends nothing

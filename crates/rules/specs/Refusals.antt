@@ -42,10 +42,10 @@ knownState state = among state states
 abbrev pub mostBusy : ℕ
 mostBusy = 256
 
--- 6: "state is none of .., or status is above 0Fh, or a pending memory read .., or a pending blank report or start address .."; the
--- busy count last
+-- 6: "state is none of .., or status is above 0Fh, or a pending memory read .., or a pending blank report or start address ..", or the busy
+-- count
 abbrev pub badSession : Session → Bool
-badSession s = not (knownState (s .state)) || ltb 0x0F (s .status) || badPending (s .pending) || ltb mostBusy (s .busy)
+badSession s = not (knownState (s .state)) || ltb 0x0F (s .status) || ltb mostBusy (s .busy) || badPending (s .pending)
 
 -- "Checked in this order; the first that applies is given, and none without its cause.": the number, and 0 where none applies;
 -- n the size of the reply buffer
