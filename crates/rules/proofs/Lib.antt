@@ -8,6 +8,7 @@ pub mod Shape
 pub mod EffectsHold
 pub mod Ready
 pub mod BenchCasesHold
+pub mod BusyCountHolds
 pub mod BusyHolds
 pub mod LevelTwoHolds
 pub mod JudgedHolds

@@ -1,15 +1,17 @@
 -- P5 of 02, "Busy is busy", said of every board and every request: what becomes of the busy page count, what GETSTATUS tells, what works
--- in state 4, and which counts are admitted. The statements are proved in proofs/BusyHolds.antt.
+-- in state 4, and which counts are admitted. The statements are proved in proofs/BusyCountHolds.antt and
+-- proofs/BusyHolds.antt.
+use mathlib.Core.Logic.{_⊎_}
 use mathlib.Core.Path.{_≡_}
 use mathlib.Core.Bool.{Bool, true, false}
 use mathlib.Core.List.{List, [], _∷_}
 use mathlib.Core.Option.{Option, none, some}
 use Prim.Native.Nat.{ℕ, _+_, _*_, _≤_, _<_}
 use lib.Dec.{eqb}
-use Rattle.words.specs.Words.{if_then_else_}
+use Rattle.words.specs.Words.{if_then_else_, among}
 use Rattle.memory.specs.declared.address.FlashAddress.{FlashAddress}
 use Rattle.command.specs.declared.command.Command.{Command}
-use Rattle.rules.specs.Session.{Session, StartKind, Start}
+use Rattle.rules.specs.Session.{Session, StartKind, Nothing, Start}
 use Rattle.rules.specs.Result.{Board, Result, pages, Outcome, Done, Stall, Started, Refused}
 use Rattle.rules.specs.Requests.{Request, Dnload, Upload, GetStatus, GetState, ClrStatus, Abort, Other, requestOf}
 use Rattle.rules.specs.Refusals.{badPending, badSession, refusal}
@@ -43,6 +45,13 @@ countOf b PowerUp r = 0
 
 abbrev pub BusyCounted : Type 0
 BusyCounted = (b : Board) (v : Event) → step b v .session .busy ≡ countOf b v (step b v)
+
+-- a session as the loader leaves it, from power-up on: a count above 0 stands in states 3 and 4 alone, and then nothing is pending
+abbrev pub Own : Session → Type 0
+Own s = (s .busy ≡ 0) ⊎ ((among (s .state) (3 ∷ 4 ∷ []) ≡ true) × (s .pending ≡ Nothing))
+
+abbrev pub OwnStays : Type 0
+OwnStays = (b : Board) (v : Event) → Own (b .session) → Own (step b v .session)
 
 -- ---- GETSTATUS
 
