@@ -4,7 +4,7 @@
 use mathlib.Core.Logic.{_⊎_, inl, inr}
 use mathlib.Core.Path.{_≡_, refl, sym, ap, _∙_, subst}
 use mathlib.Core.Bool.{Bool, true, false, _||_, _&&_, and-false}
-use mathlib.Core.List.{List, [], _∷_}
+use mathlib.Core.List.{List, []}
 use mathlib.Core.Option.{Option, none, some}
 use Prim.Native.Nat.{ℕ}
 use native.Mathlib.Omega.{arith}
@@ -29,8 +29,8 @@ use Rattle.rules.specs.Requests.{startStates, startPending, startOf, com
 use Rattle.rules.specs.Requests.{getStatus, uploadStates, sendable, pendingCount, pendingAfter, send, upload}
 use Rattle.rules.specs.Refusals.{refusal}
 use Rattle.rules.specs.Step.{Ask, PowerUp, ask, step}
-use Rattle.rules.specs.Busy.{clears, countAfter, BusyCounted, Own, OwnStays}
-use Rattle.rules.proofs.StepLaws.{through}
+use Rattle.rules.specs.Busy.{clears, countAfter, BusyCounted, busyStates, Own, OwnStays}
+use Rattle.rules.proofs.StepLaws.{through, empty-stalls, dnload-stalls, upload-stalls, clear-stalls}
 use Rattle.rules.proofs.PerformLaws.{blank-stored}
 use Rattle.rules.proofs.Shape.{Shape, refused, still, did, shape}
 
@@ -176,22 +176,19 @@ own-status-4 : (b : Board) → b .session .state ≡ 4 → own (getStatus b)
 unfolding own
 own-status-4 b four = inl (rw four)
 
-module _ (b : Board) (t : among (b .session .state) (3 ∷ 4 ∷ []) ≡ true) (p : b .session .pending ≡ Nothing) (not-5 : eqb (b .session .state) 5 ≡ false)
+module _ (b : Board) (t : among (b .session .state) busyStates ≡ true) (p : b .session .pending ≡ Nothing) (not-5 : eqb (b .session .state) 5 ≡ false)
     (no-command : among (b .session .state) commandStates ≡ false) (no-upload : among (b .session .state) uploadStates ≡ false)
     (no-clr : among (b .session .state) clrStates ≡ false) (status : own (getStatus b)) where
-  own-empty : own (endDownload b)
-  unfolding endDownload endPlain
-  own-empty =
-      let no-start : startPending (b .session .pending) ≡ false = rw p in
-      rw (no-start, and-false (among (b .session .state) startStates), not-5) (own-stall b)
+  no-start : (among (b .session .state) startStates && startPending (b .session .pending)) ≡ false
+  no-start = rw (p, and-false (among (b .session .state) startStates))
 
   own-respond : (d : List ℕ) (q : Request) → own (respond b q d)
-  unfolding respond dnload upload own
-  own-respond d (Dnload n) = rw no-command (through own (ltb mostData n) (own-stall b) (through own (eqb n 0) own-empty (own-stall b)))
-  own-respond d (Upload n) = rw no-upload (own-stall b)
+  unfolding respond own
+  own-respond d (Dnload n) = rw (dnload-stalls b n d (empty-stalls b no-start not-5) no-command) (own-stall b)
+  own-respond d (Upload n) = rw (upload-stalls b n no-upload) (own-stall b)
   own-respond d GetStatus = status
   own-respond d GetState = inr (t, p)
-  own-respond d ClrStatus = rw no-clr (own-stall b)
+  own-respond d ClrStatus = rw (clear-stalls b clrStates (b .session .busy) no-clr) (own-stall b)
   own-respond d Abort = through own (among (b .session .state) abortStates) (inl refl) (own-stall b)
   own-respond d Other = own-stall b
 
@@ -199,7 +196,7 @@ last-of : (t : Bool) → (t || false) ≡ true → t ≡ true
 last-of true q = refl
 last-of false q = q
 
-own-waiting : (b : Board) (d : List ℕ) (q : Request) (t : Bool) → eqb (b .session .state) 3 ≡ t → among (b .session .state) (3 ∷ 4 ∷ []) ≡ true
+own-waiting : (b : Board) (d : List ℕ) (q : Request) (t : Bool) → eqb (b .session .state) 3 ≡ t → among (b .session .state) busyStates ≡ true
     → b .session .pending ≡ Nothing → own (respond b q d)
 own-waiting b d q true three w p =
     let s = eqb-true _ 3 three in

@@ -13,13 +13,13 @@ use Rattle.memory.specs.Memory.{flashSize, eepromSize}
 use Rattle.rules.specs.Result.{Board, Result}
 use Rattle.rules.specs.Commands.{stall}
 use Rattle.rules.specs.Requests.{Request, Dnload, Upload, GetStatus, GetState, ClrStatus, Abort, Other, requestOf, respond, dnload, endDownload}
-use Rattle.rules.specs.Requests.{commandStates, clrStates, abortStates, mostData}
-use Rattle.rules.specs.Requests.{entered, timeout, getStatus, uploadStates, upload}
+use Rattle.rules.specs.Requests.{clrStates, abortStates}
+use Rattle.rules.specs.Requests.{entered, timeout, getStatus}
 use Rattle.rules.specs.Refusals.{knownState, badSession, badData, replySize, mostBusy, refusal}
 use Rattle.rules.specs.Step.{ask}
 use Rattle.rules.specs.Busy.{Told, StatusTold, BusyTold, works, sentFrom4, leftFrom4, AnsweredIn4}
 use Rattle.rules.specs.Busy.{InState4, StartsBusy, BusyAdmitted}
-use Rattle.rules.proofs.StepLaws.{through, empty-stalls, unrefused}
+use Rattle.rules.proofs.StepLaws.{empty-stalls, dnload-stalls, upload-stalls, clear-stalls, unrefused}
 
 -- ---- GETSTATUS
 
@@ -64,19 +64,12 @@ module _ (b : Board) (four : b .session .state ≡ 4) where
   stalls q w s l = record { outcome = rw w; sent = rw s; state = rw l }
 
   in-4 : (d : List ℕ) (q : Request) → In4 q (respond b q d)
-  unfolding respond dnload upload
-  in-4 d (Dnload n) =
-      let t : among (b .session .state) commandStates ≡ false = rw four in
-      let stalled = stalls (Dnload n) refl refl refl in
-      rw (empty-stalls b (rw four) (rw four), t) (through (In4 (Dnload n)) (ltb mostData n) stalled (through (In4 (Dnload n)) (eqb n 0) stalled stalled))
-  in-4 d (Upload n) =
-      let t : among (b .session .state) uploadStates ≡ false = rw four in
-      rw t (stalls (Upload n) refl refl refl)
+  unfolding respond
+  in-4 d (Dnload n) = rw (dnload-stalls b n d (empty-stalls b (rw four) (rw four)) (rw four)) (stalls (Dnload n) refl refl refl)
+  in-4 d (Upload n) = rw (upload-stalls b n (rw four)) (stalls (Upload n) refl refl refl)
   in-4 d GetStatus = record { outcome = refl; sent = rw four; state = rw four }
   in-4 d GetState = record { outcome = refl; sent = rw four; state = four }
-  in-4 d ClrStatus =
-      let t : among (b .session .state) clrStates ≡ false = rw four in
-      rw t (stalls ClrStatus refl refl refl)
+  in-4 d ClrStatus = rw (clear-stalls b clrStates (b .session .busy) (rw four)) (stalls ClrStatus refl refl refl)
   in-4 d Abort =
       let t : among (b .session .state) abortStates ≡ true = rw four in
       rw t (record { outcome = refl; sent = refl; state = refl })

@@ -10,7 +10,7 @@ use lib.Dec.{eqb, ltb}
 use borrow.Author.Tests.{ne-eqb, le-ltb, eqb-false, ltb-false}
 use lib.ListN.{length}
 use Rattle.memory.specs.Memory.{flashSize, flashPages, eepromSize}
-use Rattle.words.specs.Words.{if_then_else_, among}
+use Rattle.words.specs.Words.{if_then_else_}
 use Rattle.blank.specs.Blank.{usedIn}
 use Rattle.config.specs.Level.{level}
 use Rattle.memory.specs.declared.address.FlashAddress.{FlashAddress}
@@ -38,13 +38,13 @@ use Rattle.rules.specs.Session.{idle}
 use Rattle.rules.specs.Levels.{levelStatus}
 use Rattle.rules.specs.Commands.{stall, setStatus, perform, accept, blankEffect, forbidden, obey, obeyForm}
 use Rattle.rules.specs.Requests.{requestOf, Request, Dnload, Upload, GetStatus, GetState, ClrStatus, Abort, Other, mostData, respond, dnload}
-use Rattle.rules.specs.Requests.{commandStates, uploadStates, abortStates, upload}
+use Rattle.rules.specs.Requests.{abortStates}
 use Rattle.rules.specs.Refusals.{refusal}
 use Rattle.rules.specs.Step.{Ask, PowerUp, ask, powerUp, step}
 use Rattle.rules.specs.Effects.{PagesOf, Leaves, Effects, MovesNothing, RefusalsMoveNothing, RefusalsGiven, AcceptedRightly, AcceptedOnly, Commands}
 use Rattle.rules.specs.Effects.{AcceptedAlways, NotAcceptedSaid, StatusStays, WrittenBack, AnsweredIsWrittenBack, Awake}
 use Rattle.rules.specs.BenchCases.{Ready, Unnamed, download}
-use Rattle.rules.proofs.StepLaws.{through, empty-stalls}
+use Rattle.rules.proofs.StepLaws.{through, empty-stalls, dnload-stalls, upload-stalls, clear-stalls}
 use Rattle.rules.proofs.PerformLaws.{transfer-fit}
 use Rattle.rules.proofs.Ready.{commanded, not-commanded, stateOf}
 use Rattle.rules.proofs.Shape.{Passed, Shape, refused, still, did, shape, isRefused}
@@ -209,19 +209,13 @@ module _ (b : Board) (ten : b .session .state ≡ 10) where
   kept-stall = (refl, rw ten)
 
   kept-respond : (q : Request) (d : List ℕ) → (q ≡ ClrStatus → ⊥) → Kept (respond b q d)
-  unfolding respond dnload upload
-  kept-respond (Dnload n) d h =
-      let t : among (b .session .state) commandStates ≡ false = rw ten in
-      rw (empty-stalls b (rw ten) (rw ten), t) (through Kept (ltb mostData n) kept-stall (through Kept (eqb n 0) kept-stall kept-stall))
-  kept-respond (Upload n) d h =
-      let t : among (b .session .state) uploadStates ≡ false = rw ten in
-      rw t kept-stall
+  unfolding respond
+  kept-respond (Dnload n) d h = rw (dnload-stalls b n d (empty-stalls b (rw ten) (rw ten)) (rw ten)) kept-stall
+  kept-respond (Upload n) d h = rw (upload-stalls b n (rw ten)) kept-stall
   kept-respond GetStatus d h = (rw ten, refl)
   kept-respond GetState d h = (ten, refl)
   kept-respond ClrStatus d h = absurd (h refl)
-  kept-respond Abort d h =
-      let t : among (b .session .state) abortStates ≡ false = rw ten in
-      rw t kept-stall
+  kept-respond Abort d h = rw (clear-stalls b abortStates 0 (rw ten)) kept-stall
   kept-respond Other d h = kept-stall
 
 pub status-stays : StatusStays

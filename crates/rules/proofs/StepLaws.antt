@@ -75,10 +75,31 @@ pub through : (P : Result → Type 0) (t : Bool) {x y : Result} → P x → P y 
 through P true p q = p
 through P false p q = q
 
--- an empty DNLOAD stalls in a state that neither starts nor ends
-pub empty-stalls : (b : Board) → among (b .session .state) startStates ≡ false → eqb (b .session .state) 5 ≡ false → endDownload b ≡ stall b
-unfolding endDownload endPlain
-empty-stalls b t u = rw (t, u)
+-- ---- where a request stalls by the state alone
+
+-- whatever two tests say
+same-thrice : (t u : Bool) (x : Result) → (if t then x else if u then x else x) ≡ x
+same-thrice true u x = refl
+same-thrice false true x = refl
+same-thrice false false x = refl
+
+module _ (b : Board) where
+  -- an empty DNLOAD, where no start is answered and the state is not 5
+  pub empty-stalls : (among (b .session .state) startStates && startPending (b .session .pending)) ≡ false → eqb (b .session .state) 5 ≡ false
+      → endDownload b ≡ stall b
+  unfolding endDownload endPlain
+  empty-stalls t u = rw (t, u)
+
+  pub dnload-stalls : (n : ℕ) (d : List ℕ) → endDownload b ≡ stall b → among (b .session .state) commandStates ≡ false → dnload b n d ≡ stall b
+  unfolding dnload
+  dnload-stalls n d e t = rw (e, t) (same-thrice (ltb mostData n) (eqb n 0) (stall b))
+
+  pub upload-stalls : (n : ℕ) → among (b .session .state) uploadStates ≡ false → upload b n ≡ stall b
+  unfolding upload
+  upload-stalls n t = rw t
+
+  pub clear-stalls : (states : List ℕ) (busy : ℕ) → among (b .session .state) states ≡ false → clearIn states busy b ≡ stall b
+  clear-stalls states busy t = rw t
 
 module _ (b : Board) where
   abbrev silent : Result → Type 0

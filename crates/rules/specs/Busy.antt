@@ -1,6 +1,5 @@
--- P5 of 02, "Busy is busy", said of every board and every request: what becomes of the busy page count, what GETSTATUS tells, what works
--- in state 4, and which counts are admitted. The statements are proved in proofs/BusyCountHolds.antt and
--- proofs/BusyHolds.antt.
+-- P5 of 02, "Busy is busy", said of every board and every request: what becomes of the busy page count, which proofs/BusyCountHolds.antt
+-- proves; then what GETSTATUS tells, what works in state 4, and which counts are admitted, proved in proofs/BusyHolds.antt.
 use mathlib.Core.Logic.{_⊎_}
 use mathlib.Core.Path.{_≡_}
 use mathlib.Core.Bool.{Bool, true, false}
@@ -46,9 +45,13 @@ countOf b PowerUp r = 0
 abbrev pub BusyCounted : Type 0
 BusyCounted = (b : Board) (v : Event) → step b v .session .busy ≡ countOf b v (step b v)
 
+-- before the first GETSTATUS, and before the next
+abbrev pub busyStates : List ℕ
+busyStates = 3 ∷ 4 ∷ []
+
 -- a session as the loader leaves it, from power-up on: a count above 0 stands in states 3 and 4 alone, and then nothing is pending
 abbrev pub Own : Session → Type 0
-Own s = (s .busy ≡ 0) ⊎ ((among (s .state) (3 ∷ 4 ∷ []) ≡ true) × (s .pending ≡ Nothing))
+Own s = (s .busy ≡ 0) ⊎ ((among (s .state) busyStates ≡ true) × (s .pending ≡ Nothing))
 
 abbrev pub OwnStays : Type 0
 OwnStays = (b : Board) (v : Event) → Own (b .session) → Own (step b v .session)
