@@ -1,7 +1,8 @@
--- The paper's configuration bytes and fixed bytes. Assumes nothing: these are definitions.
+-- The paper's configuration bytes and fixed bytes. Assumes nothing: these are definitions and a statement.
+use mathlib.Core.Path.{_≡_}
 use mathlib.Core.Bool.{Bool, _||_}
 use mathlib.Core.List.{List, [], _∷_}
-use Prim.Native.Nat.{ℕ, _+_, _*_, _/_, _%_}
+use Prim.Native.Nat.{ℕ, _+_, _*_, _/_, _%_, _<_}
 use lib.Dec.{eqb, leb}
 use Rattle.words.specs.Words.{if_then_else_, among}
 pub use Rattle.config.specs.declared.config.Config.{Config}
@@ -55,6 +56,25 @@ byteRead i c = if readable i then Value (configByte i c) else Unknown
 abbrev pub bytesRead : ByteRead → List ℕ
 bytesRead (Value v) = v ∷ []
 bytesRead Unknown = []
+
+-- the same, one by one, in the paper's numbers: "index 00h-06h, 30h, 31h, 60h, 61h", and "manufacturer 58h, family D7h, product F7h,
+-- revision DFh"
+pub record ByteTable (c : Config) : Type 0 where
+  pub bsb : bytesRead (byteRead 0x00 c) ≡ c .bsb ∷ []
+  pub sbv : bytesRead (byteRead 0x01 c) ≡ c .sbv ∷ []
+  pub p1cf : bytesRead (byteRead 0x02 c) ≡ c .p1cf ∷ []
+  pub p3cf : bytesRead (byteRead 0x03 c) ≡ c .p3cf ∷ []
+  pub p4cf : bytesRead (byteRead 0x04 c) ≡ c .p4cf ∷ []
+  pub ssb : bytesRead (byteRead 0x05 c) ≡ c .ssb ∷ []
+  pub eb : bytesRead (byteRead 0x06 c) ≡ c .eb ∷ []
+  pub manufacturer : bytesRead (byteRead 0x30 c) ≡ 0x58 ∷ []
+  pub family : bytesRead (byteRead 0x31 c) ≡ 0xD7 ∷ []
+  pub product : bytesRead (byteRead 0x60 c) ≡ 0xF7 ∷ []
+  pub revision : bytesRead (byteRead 0x61 c) ≡ 0xDF ∷ []
+  pub no-other : (i : ℕ) → 0x06 < i → (i ≡ 0x30 → ⊥) → (i ≡ 0x31 → ⊥) → (i ≡ 0x60 → ⊥) → (i ≡ 0x61 → ⊥) → bytesRead (byteRead i c) ≡ []
+
+abbrev pub BytesNumbered : Type 0
+BytesNumbered = (c : Config) → ByteTable c
 
 -- "write configuration byte": the byte of that index, and the others as they were
 abbrev pub withByte : ℕ → ℕ → Config → Config

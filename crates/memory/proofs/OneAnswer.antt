@@ -10,7 +10,8 @@ use Rattle.memory.proofs.programming.store_bytes.Reads as store-bytes
 use Rattle.memory.proofs.erase.erase_block.Reads as erase-block
 use Rattle.memory.proofs.erase.erase_chip.Reads as erase-chip
 use Rattle.memory.proofs.erase.erase_from.Reads as erase-from
-use Rattle.memory.proofs.reading.read.Reads as read
+use Rattle.memory.proofs.reading.read_flash.Reads as read-flash
+use Rattle.memory.proofs.reading.read_eeprom.Reads as read-eeprom
 
 pub of-store-page : (κs : _) (a : _) (r r′ : _) (s s′ : _) → store-page.Post κs a r s → store-page.Post κs a r′ s′
     → (r ≡ r′) × (s .0 .now ≡ s′ .0 .now)
@@ -40,6 +41,10 @@ pub of-erase-from : (κs : _) (a : _) (r r′ : _) (s s′ : _) → erase-from.P
     → (r ≡ r′) × (s .0 .now ≡ s′ .0 .now)
 of-erase-from κs a r r′ s s′ p q = (one (p .0) (q .0), one (p .1) (q .1))
 
-pub of-read : (κs : _) (a : _) (r r′ : _) (s s′ : _) → read.Post κs a r s → read.Post κs a r′ s′
+pub of-read-flash : (κs : _) (a : _) (r r′ : _) (s s′ : _) → read-flash.Post κs a r s → read-flash.Post κs a r′ s′
     → (r ≡ r′) × (s .1 .1 .1 .0 .now ≡ s′ .1 .1 .1 .0 .now)
-of-read κs a r r′ s s′ p q = (one (p .0) (q .0), one (p .1) (q .1))
+of-read-flash κs a r r′ s s′ p q = (one (p .0) (q .0), one (p .1) (q .1))
+
+pub of-read-eeprom : (κs : _) (a : _) (r r′ : _) (s s′ : _) → read-eeprom.Post κs a r s → read-eeprom.Post κs a r′ s′
+    → (r ≡ r′) × (s .1 .1 .1 .0 .now ≡ s′ .1 .1 .1 .0 .now)
+of-read-eeprom κs a r r′ s s′ p q = (one (p .0) (q .0), one (p .1) (q .1))

@@ -20,7 +20,8 @@ pub use page::store_page;
 pub use programming::program_eeprom;
 pub use programming::program_flash;
 pub use programming::store_bytes;
-pub use reading::read;
+pub use reading::read_eeprom;
+pub use reading::read_flash;
 
 // "Flash: 32,768 bytes, 0000h to 7FFFh, in 256 pages of 128. EEPROM: 1,024 bytes".
 pub const FLASH_SIZE: usize = 32768;

@@ -11,6 +11,7 @@ use Rattle.command.specs.Transfer.{padding, bodyPlace}
 use Rattle.command.specs.declared.reader.Parts.{Parts}
 use Rattle.command.specs.declared.reader.Reading.the-variants.{Taken}
 use Rattle.command.specs.Reader.{partsOf, readCommand}
+pub use Rattle.command.specs.Rows.{Bytes}
 use Rattle.writer.specs.Writer.{Wrote, writeCommand, roomAfter}
 
 -- where the reader says that body and suffix lie
@@ -65,10 +66,6 @@ ZeroFilled (StartAt a) p = Unit {0}
 ZeroFilled ReadVersion p = Unit {0}
 ZeroFilled (ReadByte i) p = Unit {0}
 ZeroFilled ReadHsb p = Unit {0}
-
--- each is a byte
-abbrev pub Bytes : List ℕ → Type 0
-Bytes p = (i : ℕ) → byteAt p i < 256
 
 -- the writer, handed what the reader read, writes the data back "byte for byte"
 pub record WritesAs (p : List ℕ) (k : Command) (room : List ℕ) : Type 0 where

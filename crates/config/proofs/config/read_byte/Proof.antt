@@ -1,10 +1,10 @@
 -- `config::config::read_byte` meets its contract: each arm is an index of the table.
 -- Assumes nothing.
-use mathlib.Core.Path.{_≡_}
+use mathlib.Core.Path.{_≡_, sym}
 use Prim.Native.Nat.{ℕ, suc, _≤_, _<_, zero-le}
 use native.Mathlib.Omega.{arith}
-use borrow.Author.Tests.{lt-leb, ne-eqb}
-use Rattle.config.specs.Config.{Config, byteRead, Unknown}
+use Rattle.config.specs.Config.{byteRead}
+use Rattle.config.proofs.ConfigLaws.{byteRead-unknown}
 use Rattle.config.proofs.config.read_byte.Statement.{statement}
 use Rattle.config.proofs.config.read_byte.Tie as tie
 
@@ -13,11 +13,6 @@ above n i h d = omega arith
 
 past-6 : (i : ℕ) → (i ≡ 0 → ⊥) → (i ≡ 1 → ⊥) → (i ≡ 2 → ⊥) → (i ≡ 3 → ⊥) → (i ≡ 4 → ⊥) → (i ≡ 5 → ⊥) → (i ≡ 6 → ⊥) → 6 < i
 past-6 i a b c d e f g = above 6 i (above 5 i (above 4 i (above 3 i (above 2 i (above 1 i (above 0 i zero-le a) b) c) d) e) f) g
-
--- an index that the table has not
-not-known : (i : ℕ) (c : Config) → 0x06 < i → (i ≡ 0x30 → ⊥) → (i ≡ 0x31 → ⊥) → (i ≡ 0x60 → ⊥) → (i ≡ 0x61 → ⊥) → Unknown ≡ byteRead i c
-unfolding byteRead
-not-known i c h a b d e = rw (lt-leb i 0x06 h, ne-eqb i 0x30 a, ne-eqb i 0x31 b, ne-eqb i 0x60 d, ne-eqb i 0x61 e)
 
 returns : tie.Need-returns
 unfolding byteRead
@@ -64,14 +59,13 @@ unfolding byteRead
 returns-11 c = simp (c .match .keys11)
 
 returns-12 : tie.Need-returns-12
-unfolding byteRead
 returns-12 c =
     let args = c .before .args in
     let fixed = c .match .rest in
     let bytes = fixed .0 .0 .0 .0 in
     let ports = bytes .0 .0 .0 in
     let past = past-6 (args .index) (ports .0 .0 .0 .1) (ports .0 .0 .1) (ports .0 .1) (ports .1) (bytes .0 .0 .1) (bytes .0 .1) (bytes .1) in
-    not-known (args .index) (args .config) past (fixed .0 .0 .0 .1) (fixed .0 .0 .1) (fixed .0 .1) (fixed .1)
+    sym (byteRead-unknown (args .index) (args .config) past (fixed .0 .0 .0 .1) (fixed .0 .0 .1) (fixed .0 .1) (fixed .1))
 
 pub read-byte-spec : {M : Type 1} → statement M
 read-byte-spec =
