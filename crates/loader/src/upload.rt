@@ -3,6 +3,7 @@ ghost use mathlib.Core.Path.{_≡_};
 ghost use mathlib.Core.Bool.{false};
 ghost use Prim.Native.Nat.{_≤_, _<_};
 ghost use lib.ListN.{length};
+ghost use Rattle.memory.specs.Read.{readCount, readBuffer};
 ghost use Rattle.rules.specs.Session.{idleWith};
 ghost use Rattle.rules.specs.Result.{board as boardOf};
 ghost use Rattle.rules.specs.Requests.{restOf, readSent, send as sendOf, upload as uploadOf};
@@ -57,6 +58,17 @@ fn rest_of(range: Range, n: u16) -> Range
     }
 }
 
+// Reads a range to the front of the reply, and gives how many bytes those are: of flash by flash's operation, of EEPROM by its own.
+fn read_range(range: Range, flash: &[u8], eeprom: &[u8], reply: &mut [u8]) -> usize
+    ensures { λ r. ⌜ r ≡ readCount range (now (flash .entry)) (now (eeprom .entry)) (now (reply .entry)) ⌝ }
+    ensures { λ _. ⌜ now (reply .exit) ≡ readBuffer range (now (flash .entry)) (now (eeprom .entry)) (now (reply .entry)) ⌝ }
+{
+    match range {
+        Range::Flash(start, end) => memory::read_flash(start, end, flash, reply),
+        Range::Eeprom(start, end) => memory::read_eeprom(start, end, eeprom, reply),
+    }
+}
+
 // A memory read: its first bytes where more remains, else all of it.
 fn send_read(
     busy: u16,
@@ -73,7 +85,7 @@ fn send_read(
 {
     let all = command::range_count(range);
     if (n as usize) < all {
-        let count = memory::read(first_of(range, n), flash, eeprom, reply);
+        let count = read_range(first_of(range, n), flash, eeprom, reply);
         return sent(
             config,
             9,
@@ -82,7 +94,7 @@ fn send_read(
             count,
         );
     }
-    let count = memory::read(range, flash, eeprom, reply);
+    let count = read_range(range, flash, eeprom, reply);
     sent(config, 2, Pending::Nothing, busy, count)
 }
 

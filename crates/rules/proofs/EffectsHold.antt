@@ -1,16 +1,17 @@
 -- The statements of specs/Effects.antt hold.
 -- Assumes nothing.
+use mathlib.Core.Logic.{_⊎_, inl, inr}
 use mathlib.Core.Path.{_≡_, refl, sym, ap, _∙_, subst}
 use mathlib.Core.Bool.{Bool, true, false, not, false≢true, true≢false}
-use mathlib.Core.List.{List, []}
+use mathlib.Core.List.{List, [], _∷_}
 use mathlib.Core.Option.{Option, none, some}
 use Prim.Native.Nat.{ℕ, _≤_, _<_}
 use native.Mathlib.Omega.{arith}
 use lib.Dec.{eqb, ltb}
-use borrow.Author.Tests.{ne-eqb, le-ltb, eqb-false, ltb-false}
+use borrow.Author.Tests.{ne-eqb, le-ltb, eqb-true, eqb-false, ltb-false}
 use lib.ListN.{length}
 use Rattle.memory.specs.Memory.{flashSize, flashPages, eepromSize}
-use Rattle.words.specs.Words.{if_then_else_}
+use Rattle.words.specs.Words.{among}
 use Rattle.blank.specs.Blank.{usedIn}
 use Rattle.config.specs.Level.{level}
 use Rattle.memory.specs.declared.address.FlashAddress.{FlashAddress}
@@ -33,21 +34,21 @@ use Rattle.command.specs.declared.command.Command.the-variants.{StartReset, Sta
 use Rattle.command.proofs.AddressLaws.{badEnds-good}
 use Rattle.command.proofs.ReaderLaws.{passed, taken}
 use Rattle.writer.proofs.RoundTripHolds.{writes-back}
-use Rattle.rules.specs.Result.{Board, Result, Stall, Refused}
-use Rattle.rules.specs.Session.{idle}
+use Rattle.rules.specs.Result.{Board, Result, reply, Outcome, Done, Stall, Refused}
+use Rattle.rules.specs.Session.{Nothing, idle}
 use Rattle.rules.specs.Levels.{levelStatus}
-use Rattle.rules.specs.Commands.{stall, setStatus, perform, accept, blankEffect, forbidden, obey, obeyForm}
+use Rattle.rules.specs.Commands.{stall, perform, accept, blankEffect, forbidden, obey, obeyForm}
 use Rattle.rules.specs.Requests.{requestOf, Request, Dnload, Upload, GetStatus, GetState, ClrStatus, Abort, Other, mostData, respond, dnload}
-use Rattle.rules.specs.Requests.{abortStates}
+use Rattle.rules.specs.Requests.{commandStates, abortStates}
 use Rattle.rules.specs.Refusals.{refusal}
 use Rattle.rules.specs.Step.{Ask, PowerUp, ask, powerUp, step}
-use Rattle.rules.specs.Effects.{PagesOf, Leaves, Effects, MovesNothing, RefusalsMoveNothing, RefusalsGiven, AcceptedRightly, AcceptedOnly, Commands}
+use Rattle.rules.specs.Effects.{PagesOf, Leaves, Effects, MovesNothing, RefusalsMoveNothing, RefusalsGiven, AcceptedOnly, Commands}
 use Rattle.rules.specs.Effects.{AcceptedAlways, NotAcceptedSaid, StatusStays, WrittenBack, AnsweredIsWrittenBack, Awake}
 use Rattle.rules.specs.BenchCases.{Ready, Unnamed, download}
 use Rattle.rules.proofs.StepLaws.{through, empty-stalls, dnload-stalls, upload-stalls, clear-stalls}
 use Rattle.rules.proofs.PerformLaws.{transfer-fit}
 use Rattle.rules.proofs.Ready.{commanded, not-commanded, stateOf}
-use Rattle.rules.proofs.Shape.{Passed, Shape, refused, still, did, shape, isRefused}
+use Rattle.rules.proofs.Shape.{Passed, Shape, refused, still, did, shape, isRefused, accepted-did}
 
 -- an answer that changes neither memory nor configuration
 leaves-still : (b : Board) (d : List ℕ) (r : Result) → r .stored ≡ [] → r .patched ≡ [] → r .config ≡ b .config → r .accepted ≡ none → Leaves b d r
@@ -139,30 +140,22 @@ refusals-given b setup d n h = rw (ne-eqb (refusal b setup d n) 0 h)
 
 -- ---- what is accepted
 
-accepted-rightly : (b : Board) (number : ℕ) (d : List ℕ) (k : Command) (r : Result) → Shape b number d r → r .accepted ≡ some k → AcceptedRightly b d k r
+pub accepted-only : AcceptedOnly
 unfolding readCommand
-accepted-rightly b number d k r (refused q) e =
-    let z : none ≡ some k = sym (ap (λ x. x .accepted) q) ∙ e in
-    absurd (let n : _≡_ {A = ℕ} 0 1 = cc in omega arith)
-accepted-rightly b number d k r (still o bs s t q) e =
-    let z : none ≡ some k = sym (ap (λ x. x .accepted) q) ∙ e in
-    absurd (let n : _≡_ {A = ℕ} 0 1 = cc in omega arith)
-accepted-rightly b number d k r (did c p q) e =
-    let z : some c ≡ some k = sym (ap (λ x. x .accepted) q) ∙ e in
-    let same : c ≡ k = cc in
-    subst (λ y. AcceptedRightly b d y r) same (record {
+accepted-only b setup d n k e =
+    let a = accepted-did b setup d n k e in
+    let p = a .passed in
+    let q = a .answer in
+    record {
       read = rw (p .formed, p .address-right, p .length-right);
       allowed = p .level-right;
       done = ap (λ x. x .outcome) q;
       in-state-3 = ap (λ x. x .session .state) q;
       busy-set = rw q;
-    })
-
-pub accepted-only : AcceptedOnly
-accepted-only b setup d n k = accepted-rightly b (refusal b setup d n) d k (ask b setup d n) (shape b setup d n)
+    }
 
 -- a command's answer, when DNLOAD gives one
-commands-answer : (b : Board) (setup d : List ℕ) (n : ℕ) → Commands b setup d n → ask b setup d n ≡ obeyForm b (form d) d
+pub commands-answer : (b : Board) (setup d : List ℕ) (n : ℕ) → Commands b setup d n → ask b setup d n ≡ obeyForm b (form d) d
 unfolding ask respond dnload
 commands-answer b setup d n c =
     let m : ℕ = c .bytes in
@@ -174,54 +167,69 @@ accepted-always b setup d n k c q a =
     let p = passed d k q in
     ap (λ x. x .accepted) (commands-answer b setup d n c ∙ ap (λ o. obeyForm b o d) (p .formed)) ∙ rw (a, p .address-right, p .length-right)
 
--- a command is accepted, or state 10 is left
-said : (b : Board) (d : List ℕ) (o : Option Command) → obeyForm b o d .accepted ≡ none → obeyForm b o d .session .state ≡ 10
-unfolding stall obey
-said b d none q = refl
-said b d (some k) q = go (forbidden b k) (badAddress k) (badLength k d) q
-  where
-    answer : Bool → Bool → Bool → Result
-    answer t u w =
-        if t then setStatus b (levelStatus k (level (b .config))) else
-        if u then setStatus b 0x08 else
-        if w then stall b else
-        accept k (perform b k d)
+-- an answer accepts a command, or state 10 is left
+abbrev Said : Result → Type 0
+Said r = r .accepted ≡ none → r .session .state ≡ 10
 
-    go : (t u w : Bool) → answer t u w .accepted ≡ none → answer t u w .session .state ≡ 10
-    go true u w q = refl
-    go false true w q = refl
-    go false false true q = refl
-    go false false false q = absurd (let n : _≡_ {A = ℕ} 0 1 = cc in omega arith)
+said-stall : (b : Board) → Said (stall b)
+unfolding stall
+said-stall b q = refl
+
+said : (b : Board) (d : List ℕ) (o : Option Command) → Said (obeyForm b o d)
+unfolding obey
+said b d none = said-stall b
+said b d (some k) =
+    through Said (forbidden b k) (λ q. refl) (through Said (badAddress k) (λ q. refl) (through Said (badLength k d) (said-stall b)
+    (λ q. absurd (let n : _≡_ {A = ℕ} 0 1 = cc in omega arith))))
 
 pub not-accepted-said : NotAcceptedSaid
-not-accepted-said b setup d n c q =
-    let e = commands-answer b setup d n c in
-    ap (λ x. x .session .state) e ∙ said b d (form d) (sym (ap (λ x. x .accepted) e) ∙ q)
+unfolding ask respond dnload
+not-accepted-said b setup d n m q g some-bytes =
+    rw (q, g, ne-eqb m 0 (λ z. omega arith))
+    (through Said (ltb mostData m) (said-stall b) (through Said (among (b .session .state) commandStates) (said b d (form d)) (said-stall b)))
 
 -- ---- an error status
 
+-- a request in state 10 writes nothing and keeps state and status; what is pending stays or is cleared, and no page more is waited for
+pub record Kept (b : Board) (r : Result) : Type 0 where
+  pub stored : r .stored ≡ []
+  pub patched : r .patched ≡ []
+  pub config : r .config ≡ b .config
+  pub state : r .session .state ≡ 10
+  pub status : r .session .status ≡ b .session .status
+  pub pending : (r .session .pending ≡ b .session .pending) ⊎ (r .session .pending ≡ Nothing)
+  pub busy : r .session .busy ≤ b .session .busy
+
 module _ (b : Board) (ten : b .session .state ≡ 10) where
-  abbrev Kept : Result → Type 0
-  Kept r = (r .session .state ≡ 10) × (r .session .status ≡ b .session .status)
-
-  kept-stall : Kept (stall b)
+  kept-stall : Kept b (stall b)
   unfolding stall
-  kept-stall = (refl, rw ten)
+  kept-stall = record { stored = refl; patched = refl; config = refl; state = refl; status = rw ten; pending = inr refl; busy = omega arith }
 
-  kept-respond : (q : Request) (d : List ℕ) → (q ≡ ClrStatus → ⊥) → Kept (respond b q d)
+  kept-still : (o : Outcome) (bs : List ℕ) → Kept b (reply (b .config) o bs (b .session))
+  kept-still o bs = record { stored = refl; patched = refl; config = refl; state = ten; status = refl; pending = inl refl; busy = omega arith }
+
+  kept-respond : (q : Request) (d : List ℕ) → (q ≡ ClrStatus → ⊥) → Kept b (respond b q d)
   unfolding respond
   kept-respond (Dnload n) d h = rw (dnload-stalls b n d (empty-stalls b (rw ten) (rw ten)) (rw ten)) kept-stall
   kept-respond (Upload n) d h = rw (upload-stalls b n (rw ten)) kept-stall
-  kept-respond GetStatus d h = (rw ten, refl)
-  kept-respond GetState d h = (ten, refl)
+  kept-respond GetStatus d h =
+      record { stored = refl; patched = refl; config = refl; state = rw ten; status = refl; pending = inl refl; busy = rw ten (omega arith) }
+  kept-respond GetState d h = kept-still Done (b .session .state ∷ [])
   kept-respond ClrStatus d h = absurd (h refl)
   kept-respond Abort d h = rw (clear-stalls b abortStates 0 (rw ten)) kept-stall
   kept-respond Other d h = kept-stall
 
+  -- whichever request it is, but a CLRSTATUS that is not refused
+  pub kept : (setup d : List ℕ) (n : ℕ) → (requestOf setup ≡ ClrStatus → refusal b setup d n ≡ 0 → ⊥) → Kept b (ask b setup d n)
+  unfolding ask
+  kept setup d n h = go (eqb (refusal b setup d n) 0) refl
+    where
+      go : (t : Bool) → eqb (refusal b setup d n) 0 ≡ t → Kept b (ask b setup d n)
+      go true q = rw q (kept-respond (requestOf setup) d (λ e. h e (eqb-true (refusal b setup d n) 0 q)))
+      go false q = rw q (kept-still (Refused (refusal b setup d n)) [])
+
 pub status-stays : StatusStays
-unfolding ask
-status-stays b setup d n ten h =
-    through (Kept b ten) (eqb (refusal b setup d n) 0) (kept-respond b ten (requestOf setup) d h) (ten, refl)
+status-stays b setup d n ten h = let k = kept b ten setup d n (λ e z. h e) in (k .state, k .status)
 
 -- ---- the reader and the board
 

@@ -35,7 +35,7 @@ use Rattle.rules.specs.Requests.{endDownload, upload, send, respond}
 use Rattle.rules.specs.Refusals.{refusal}
 use Rattle.rules.specs.Step.{Event, Ask, PowerUp, ask, step, Report, reports, lastSent}
 use Rattle.rules.specs.BenchCases.{Ready, Unnamed, download, askStatus}
-use Rattle.rules.specs.LevelTwo.{isChipErase, upToErase, KeptSecret, KeptSecretEver, OddBoardsCovered, probe, ToldApart}
+use Rattle.rules.specs.LevelTwo.{isChipErase, upToErase, Unerased, Spoken, KeptSecret, KeptSecretEver, OddBoardsCovered, probe, ToldApart}
 use Rattle.rules.proofs.Shape.{Passed, Shape, refused, still, did, shape}
 use Rattle.rules.proofs.Ready.{commanded, statusOf}
 
@@ -216,6 +216,41 @@ kept-secret-ever b b′ a q vs =
     ∙ ap (λ s. reports (board s (b .config) (b′ .flash) (b .eeprom)) vs) (a .same-session)
     ∙ ap (λ c. reports (board (b′ .session) c (b′ .flash) (b .eeprom)) vs) (a .same-config)
     ∙ ap (λ e. reports (board (b′ .session) (b′ .config) (b′ .flash) e) vs) q
+
+-- ---- of which boards and runs this speaks
+
+not-erase : (o : Option Command) → (o ≡ some EraseChip → ⊥) → isChipErase o ≡ false
+not-erase none h = refl
+not-erase (some (ProgramFlash a e)) h = refl
+not-erase (some (ProgramEeprom a e)) h = refl
+not-erase (some (Read r)) h = refl
+not-erase (some (BlankCheck a e)) h = refl
+not-erase (some (EraseBlock k)) h = refl
+not-erase (some EraseChip) h = absurd (h refl)
+not-erase (some (WriteByte i v)) h = refl
+not-erase (some (WriteHsb v)) h = refl
+not-erase (some StartReset) h = refl
+not-erase (some (StartAt a)) h = refl
+not-erase (some ReadVersion) h = refl
+not-erase (some (ReadByte i)) h = refl
+not-erase (some ReadHsb) h = refl
+
+to-the-end : (b : Board) (vs : List Event) → Unerased b vs → upToErase b vs ≡ vs
+to-the-end b [] h = refl
+to-the-end b (v ∷ vs) h = rw (not-erase (step b v .accepted) (h .0)) (ap (λ x. v ∷ x) (to-the-end (next b (step b v)) vs (h .1)))
+
+pub spoken : Spoken
+spoken = record {
+  boards = λ b f e l hf he m. record {
+    at-level-2 = l;
+    same-session = refl;
+    same-config = refl;
+    same-flash-size = hf;
+    same-eeprom-size = he;
+    same-blank = m;
+  };
+  runs = to-the-end;
+}
 
 pub odd-boards-covered : OddBoardsCovered
 odd-boards-covered b = other-is-level-2 (b .config)

@@ -1,11 +1,12 @@
 -- Every answer has one of three shapes: a refusal; a reply that changes neither memory nor configuration; or what an accepted
 -- command does. This is the one walk through the rules: the laws of effects and of level 2 go by its cases.
 -- Assumes nothing.
-use mathlib.Core.Path.{_≡_, refl}
+use mathlib.Core.Path.{_≡_, refl, sym, ap, _∙_, subst}
 use mathlib.Core.Bool.{Bool, true, false, _&&_}
 use mathlib.Core.List.{List, []}
 use mathlib.Core.Option.{Option, none, some}
 use Prim.Native.Nat.{ℕ}
+use native.Mathlib.Omega.{arith}
 use lib.Dec.{eqb, ltb}
 use lib.ListN.{length}
 use borrow.Author.Tests.{eqb-true, not-false}
@@ -113,3 +114,23 @@ shape b setup d n =
     pick (eqb (refusal b setup d n) 0)
     (λ x. let h = unrefused b setup d n (eqb-true _ 0 x) in of-respond b (refusal b setup d n) d (h .flash-size) (h .eeprom-size) (requestOf setup))
     (λ x. refused refl)
+
+-- an answer that accepted a command is what the command does
+pub record Did (b : Board) (d : List ℕ) (k : Command) (r : Result) : Type 0 where
+  pub passed : Passed b k d
+  pub answer : r ≡ accept k (perform b k d)
+
+accepted-by : (b : Board) (number : ℕ) (d : List ℕ) (k : Command) (r : Result) → Shape b number d r → r .accepted ≡ some k → Did b d k r
+accepted-by b number d k r (refused q) e =
+    let z : none ≡ some k = sym (ap (λ x. x .accepted) q) ∙ e in
+    absurd (let n : _≡_ {A = ℕ} 0 1 = cc in omega arith)
+accepted-by b number d k r (still o bs s t q) e =
+    let z : none ≡ some k = sym (ap (λ x. x .accepted) q) ∙ e in
+    absurd (let n : _≡_ {A = ℕ} 0 1 = cc in omega arith)
+accepted-by b number d k r (did c p q) e =
+    let z : some c ≡ some k = sym (ap (λ x. x .accepted) q) ∙ e in
+    let same : c ≡ k = cc in
+    subst (λ y. Did b d y r) same (record { passed = p; answer = q })
+
+pub accepted-did : (b : Board) (setup d : List ℕ) (n : ℕ) (k : Command) → ask b setup d n .accepted ≡ some k → Did b d k (ask b setup d n)
+accepted-did b setup d n k = accepted-by b (refusal b setup d n) d k (ask b setup d n) (shape b setup d n)

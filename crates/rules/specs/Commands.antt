@@ -9,7 +9,8 @@ use Rattle.words.specs.Words.{if_then_else_}
 use Rattle.memory.specs.Memory.{flashAddress}
 use Rattle.memory.specs.Pages.{Store, programStores, blockStores, chipStores}
 use Rattle.blank.specs.Blank.{usedIn, usedStatus}
-use Rattle.blank.specs.declared.search.Used.the-variants.{At}
+use Rattle.blank.specs.declared.search.Used.{Used}
+use Rattle.blank.specs.declared.search.Used.the-variants.{At, Nowhere}
 use Rattle.config.specs.Config.{version, configByte, withByte, withHsb, erasedConfig}
 use Rattle.config.specs.Level.{level}
 use Rattle.memory.specs.declared.address.FlashAddress.{FlashAddress}
@@ -65,10 +66,14 @@ programFlash b a e d = stores (b .config) (programStores (a .0) (e .0) (bodyOf (
 abbrev pub programEeprom : Board → EepromAddress → EepromAddress → List ℕ → Effect
 programEeprom b a e d = patches (b .config) (record { at = a; bytes = bodyOf (a .0) (e .0) d } ∷ [])
 
+-- the status of what a blank check finds, and what it leaves pending
+abbrev pub finds : Config → Used → Pending → Effect
+finds c u p = record { status = usedStatus u; pending = p; config = c; stored = []; patched = [] }
+
 -- "A blank check that meets a byte not FFh sets 05h with state 3 and the first such address pending."
 abbrev pub blankEffect : Config → Option ℕ → Effect
-blankEffect c none = leaves c Nothing
-blankEffect c (some x) = record { status = usedStatus (At (flashAddress x)); pending = BlankReport (flashAddress x); config = c; stored = []; patched = [] }
+blankEffect c none = finds c Nowhere Nothing
+blankEffect c (some x) = finds c (At (flashAddress x)) (BlankReport (flashAddress x))
 
 -- each row of the table; d the whole data
 unfoldable pub perform : Board → Command → List ℕ → Effect

@@ -23,7 +23,7 @@ use Rattle.command.specs.declared.command.Command.the-variants.{ProgramFlash, P
 use Rattle.command.specs.declared.command.Command.the-variants.{StartReset, StartAt, ReadVersion, ReadByte, ReadHsb}
 use Rattle.rules.specs.Levels.{levelStatus}
 use Rattle.rules.specs.Result.{Board, Result, next, pages, replyAfter, Done, Stall, Refused}
-use Rattle.rules.specs.Requests.{requestOf, Dnload, ClrStatus, mostData}
+use Rattle.rules.specs.Requests.{requestOf, Dnload, ClrStatus}
 use Rattle.rules.specs.Refusals.{refusal}
 use Rattle.rules.specs.Answered.{Sizes}
 use Rattle.rules.specs.BenchCases.{Ready, Unnamed, download, askState}
@@ -154,16 +154,17 @@ pub record Commands (b : Board) (setup d : List ℕ) (n : ℕ) : Type 0 where
   pub not-refused : refusal b setup d n ≡ 0
   pub dnload : requestOf setup ≡ Dnload bytes
   pub some-bytes : 0 < bytes
-  pub not-too-many : bytes ≤ mostData
+  pub not-too-many : bytes ≤ 1103
   pub in-state : among (b .session .state) (2 ∷ 5 ∷ []) ≡ true
 
 abbrev pub AcceptedAlways : Type 0
 AcceptedAlways = (b : Board) (setup d : List ℕ) (n : ℕ) (k : Command) → Commands b setup d n
     → readCommand d ≡ Taken k (partsOf k d) → levelStatus k (level (b .config)) ≡ 0x00 → ask b setup d n .accepted ≡ some k
 
--- a command that was not accepted leaves state 10; by `Effects`, memories and configuration then stay
+-- a DNLOAD that has bytes and is not refused, in any state and however long, is accepted or leaves state 10; by `Effects`, memories and
+-- configuration then stay
 abbrev pub NotAcceptedSaid : Type 0
-NotAcceptedSaid = (b : Board) (setup d : List ℕ) (n : ℕ) → Commands b setup d n
+NotAcceptedSaid = (b : Board) (setup d : List ℕ) (n bytes : ℕ) → refusal b setup d n ≡ 0 → requestOf setup ≡ Dnload bytes → 0 < bytes
     → ask b setup d n .accepted ≡ none → ask b setup d n .session .state ≡ 10
 
 -- ---- an error status

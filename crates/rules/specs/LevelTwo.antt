@@ -15,7 +15,7 @@ use Rattle.config.specs.declared.level.Level.the-variants.{L2}
 use Rattle.command.specs.declared.command.Command.{Command}
 use Rattle.command.specs.declared.command.Command.the-variants.{ProgramFlash, ProgramEeprom, Read, BlankCheck, EraseBlock, EraseChip, WriteByte, WriteHsb}
 use Rattle.command.specs.declared.command.Command.the-variants.{StartReset, StartAt, ReadVersion, ReadByte, ReadHsb}
-use Rattle.rules.specs.Result.{Board, next}
+use Rattle.rules.specs.Result.{Board, board, next}
 use Rattle.rules.specs.Step.{Event, PowerUp, step, reports, lastSent}
 use Rattle.rules.specs.Answered.{Sizes}
 use Rattle.rules.specs.BenchCases.{Unnamed, download, askStatus}
@@ -57,6 +57,18 @@ upToErase b (v ∷ vs) = v ∷ (if isChipErase (step b v .accepted) then [] else
 -- session, configuration and page count is equal
 abbrev pub KeptSecret : Type 0
 KeptSecret = (b b′ : Board) → Alike b b′ → (vs : List Event) → reports b (upToErase b vs) ≡ reports b′ (upToErase b′ vs)
+
+-- no accepted full chip erase in a run
+abbrev pub Unerased : Board → List Event → Type 0
+Unerased b [] = Unit {0}
+Unerased b (v ∷ vs) = (step b v .accepted ≡ some EraseChip → ⊥) × Unerased (next b (step b v)) vs
+
+-- no boards and no events are left out: `Alike` is a board at level 2 and the same board with another EEPROM of its size and another flash of
+-- its size and blank bytes; a run without a full chip erase is compared to its end
+pub record Spoken : Type 0 where
+  pub boards : (b : Board) (f e : List ℕ) → level (b .config) ≡ L2 → length (b .flash) ≡ length f → length (b .eeprom) ≡ length e → SameBlank (b .flash) f
+      → Alike b (board (b .session) (b .config) f e)
+  pub runs : (b : Board) (vs : List Event) → Unerased b vs → upToErase b vs ≡ vs
 
 -- with equal EEPROMs they can never be told apart, not even after a full chip erase
 abbrev pub KeptSecretEver : Type 0

@@ -32,6 +32,11 @@ unfoldable pub step : Board → Event → Result
 step b (Ask setup d n) = ask b setup d n
 step b PowerUp = powerUp b
 
+-- the board after a run
+abbrev pub after : Board → List Event → Board
+after b [] = b
+after b (v ∷ vs) = after (next b (step b v)) vs
+
 -- all that is told of a result: outcome and bytes sent, session and configuration after it, page count
 pub record Report : Type 0 where
   pub outcome : Outcome
