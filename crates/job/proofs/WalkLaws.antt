@@ -4,11 +4,11 @@ use mathlib.Core.Path.{_≡_, refl, sym, ap, _∙_}
 use mathlib.Core.Logic.{⊎-elim}
 use mathlib.Core.Bool.{true, false}
 use mathlib.Core.List.{List, [], _∷_, _++_, append-assoc, append-nil}
-use Prim.Native.Nat.{ℕ, zero, suc, _+_, _≤_, _<_}
+use Prim.Native.Nat.{ℕ, zero, suc, _+_, _-_, _≤_, _<_}
 use native.Mathlib.Omega.{arith}
 use lib.ListN.{length}
 use borrow.Author.Tests.{le-ltb}
-use Rattle.job.specs.Field.{tagAt, lengthAt, valueAt, endAt, requestTag, groupTag, byTag, beyond}
+use Rattle.job.specs.Field.{headSize, tagAt, lengthAt, valueAt, endAt, requestTag, groupTag, byTag, beyond}
 use Rattle.job.specs.Verdict.{Accepted, fieldsVerdict, verdict}
 use Rattle.job.specs.Requests.{Span, span, requestsIn, requestsOf, HaveSetups}
 use Rattle.job.specs.Walk.{Request, NoMore, walkIn, walk, firstMet, InOrder}
@@ -80,11 +80,14 @@ module _ (file : List ℕ) (from at : ℕ) (w : walk file from ≡ walk file at)
 pub record Steps (file : List ℕ) (at start size : ℕ) : Type 0 where
   pub met : walk file at ≡ span start size ∷ walk file (start + size)
   pub after : valueAt at ≤ start
+  pub tagged : tagAt file (start - headSize) ≡ requestTag
+  pub sized : lengthAt file (start - headSize) ≡ size
   pub within : start + size ≤ length file
 
 -- the same from an earlier place, from which the walk meets the same
 from-earlier : (file : List ℕ) (at later start size : ℕ) → walk file at ≡ walk file later → at ≤ later → Steps file later start size → Steps file at start size
-from-earlier file at later start size e h s = record { met = e ∙ s .met; after = omega (arith, s .after); within = s .within }
+from-earlier file at later start size e h s =
+    record { met = e ∙ s .met; after = omega (arith, s .after); tagged = s .tagged; sized = s .sized; within = s .within }
 
 none-met : {A : Type 0} (file : List ℕ) (at start size : ℕ) → walk file at ≡ [] → firstMet (walk file at) ≡ Request start size → A
 none-met file at start size e f = let g : NoMore ≡ Request start size = sym (ap firstMet e) ∙ f in let z : _≡_ {A = ℕ} 0 1 = cc in absurd (omega arith)
@@ -103,7 +106,14 @@ steps-in (suc n) file at start size h f =
     (λ (t : tagAt file at ≡ requestTag).
     let w = walk-request file at b t in
     let e = request-met _ _ _ _ (sym (ap firstMet w) ∙ f) in
-    record { met = rw (← e .0, ← e .1) w; after = omega (arith, e .0); within = omega (arith, e .0, e .1, fits file at (length file) b .1) })
+    let here : start - headSize ≡ at = omega (arith, e .0) in
+    record {
+      met = rw (← e .0, ← e .1) w;
+      after = omega (arith, e .0);
+      tagged = rw here t;
+      sized = rw here (e .1);
+      within = omega (arith, e .0, e .1, fits file at (length file) b .1);
+    })
     (λ (t : tagAt file at ≡ requestTag → ⊥).
     ⊎-elim
     (λ (u : tagAt file at ≡ groupTag).

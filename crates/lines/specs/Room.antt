@@ -1,9 +1,9 @@
--- Text put into a room. Assumes nothing: these are definitions.
+-- Text put into a room. Assumes nothing: these are definitions and a statement.
 use mathlib.Core.Path.{_≡_}
 use mathlib.Core.List.{List}
-use Prim.Native.Nat.{ℕ, _+_, _≤_}
+use Prim.Native.Nat.{ℕ, _+_, _≤_, _<_}
 use lib.ListN.{length}
-use Rattle.words.specs.Words.{if_then_else_, fits, overlay}
+use Rattle.words.specs.Words.{if_then_else_, fits, overlay, laid}
 use Rattle.lines.specs.Text.{decimal}
 use Rattle.lines.specs.Line.{Word, wordText, replyText}
 pub use Rattle.lines.specs.declared.line.Put.{Put}
@@ -22,6 +22,13 @@ putNumber (Unwritten k) = k
 abbrev pub putEnd : Put → ℕ
 putEnd (Upto end) = end
 putEnd (Unwritten k) = 0
+
+-- the same sentences in the paper's numbers, of any text and room
+pub record PutNumbered : Type 0 where
+  pub number-written : (at : ℕ) (text room : List ℕ) → at + length text ≤ length room → putNumber (put at text room) ≡ 0
+  pub end-written : (at : ℕ) (text room : List ℕ) → at + length text ≤ length room → putEnd (put at text room) ≡ at + length text
+  pub number-refused : (at : ℕ) (text room : List ℕ) → length room < at + length text → putNumber (put at text room) ≡ 9
+  pub room-refused : (at : ℕ) (text room : List ℕ) → length room < at + length text → laid at text room ≡ room
 
 -- how many bytes a line has, as the code adds them up: those whose number never varies, and then these
 abbrev pub requestRest : ℕ

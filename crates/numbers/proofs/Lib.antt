@@ -1,3 +1,4 @@
--- That what is packed is unpacked again, and that each public function has one permitted answer.
+-- That what is packed is unpacked again, that the tables of the header hold, and that each public function has one permitted answer.
 pub mod LayoutHolds
+pub mod TablesHold
 pub mod OneAnswer

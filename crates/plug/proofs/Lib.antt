@@ -2,9 +2,15 @@
 pub mod AnswerLaws
 pub mod ChipLaws
 pub mod Shape
+pub mod HandedHolds
 pub mod OrderHolds
+pub mod RowsHold
+pub mod RangesHold
 pub mod SecurityHolds
+pub mod StoredHolds
+pub mod SaidHolds
 pub mod ExamplesHold
 pub mod EffectsHold
 pub mod LevelTwoHolds
+pub mod RunsHold
 pub mod PremisesHold

@@ -3,15 +3,15 @@
 use mathlib.Core.Path.{_≡_, refl}
 use mathlib.Core.Bool.{true, false, false≢true}
 use mathlib.Core.List.{List}
-use Prim.Native.Nat.{ℕ}
+use Prim.Native.Nat.{ℕ, zero-le}
 use lib.Dec.{leb}
-use borrow.Author.Tests.{ne-eqb, le-ltb}
+use borrow.Author.Tests.{ne-eqb, le-leb, le-ltb}
 use Rattle.config.specs.Level.{levelNumber}
 use Rattle.config.specs.declared.level.Level.{Level}
 use Rattle.config.specs.declared.level.Level.the-variants.{L0, L1, L2}
 use Rattle.config.proofs.LevelLaws.{ffh-sets-level-0, feh-sets-level-1, other-sets-level-2}
 use Rattle.plug.specs.Config.{Setting, SsbLevel1, SsbLevel2, BootErased, ToBsb, ToSbv, Bljb, X2}
-use Rattle.plug.specs.Levels.{Write, allowed}
+use Rattle.plug.specs.Levels.{Write, highest, allowed}
 use Rattle.plug.specs.Commands.{form}
 use Rattle.plug.specs.Security.{Security}
 
@@ -47,6 +47,7 @@ offset-free kind offset other d h = rw (ne-eqb kind 0x00 h)
 
 pub security : Security
 security = record {
+  all-at-0 = λ k. le-leb 0 (highest k) zero-le;
   flash-written = λ a. (refl, refl, refl);
   flash-read = λ a e. (refl, refl, refl);
   block-erased = λ k. (refl, refl, refl);

@@ -6,8 +6,14 @@ pub mod Commands
 pub mod Answers
 pub mod Step
 pub mod Answered
+pub mod Handed
 pub mod Order
+pub mod Rows
+pub mod Ranges
 pub mod Security
+pub mod Stored
+pub mod Said
 pub mod Examples
 pub mod Effects
 pub mod LevelTwo
+pub mod Runs

@@ -21,6 +21,8 @@ abbrev pub NotAt2 : Command → Type 0
 NotAt2 k = (allowed k L0 ≡ true) × (allowed k L1 ≡ true) × (allowed k L2 ≡ false)
 
 pub record Security : Type 0 where
+  -- "level 0: NO_SECURITY"
+  pub all-at-0 : (k : Command) → allowed k L0 ≡ true
   -- "In this level it is impossible to write in the Flash memory, BSB and SBV."; "Level 2 forbids all read and write accesses"
   pub flash-written : (a : FlashAddress) → OnlyAt0 (Program a)
   pub flash-read : (a e : FlashAddress) → NotAt2 (Display a e)

@@ -8,4 +8,5 @@ pub mod WriterLaws
 pub mod HexLaws
 pub mod RoundTripHolds
 pub mod PaperRecords
+pub mod FramesHold
 pub mod OneAnswer

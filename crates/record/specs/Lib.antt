@@ -4,3 +4,4 @@ pub mod Record
 pub mod Reader
 pub mod Writer
 pub mod RoundTrip
+pub mod Frames

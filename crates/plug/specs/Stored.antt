@@ -1,0 +1,41 @@
+-- 002's configuration bytes: how a board is delivered, what each row of "Program Configuration Information" stores and what each row of
+-- "Read Configuration Information" tells. Proved in proofs/StoredHolds.antt.
+use mathlib.Core.Path.{_≡_}
+use Prim.Native.Nat.{ℕ, _+_, _*_, _<_}
+use Rattle.config.specs.declared.level.Level.the-variants.{L1, L2}
+use Rattle.plug.specs.Config.{Config, config, deliveredConfig, erasedConfig, level, withSetting, byteValue, Programmed, Unprogrammed}
+use Rattle.plug.specs.Config.{Setting, SsbLevel1, SsbLevel2, BootErased, ToBsb, ToSbv, Bljb, X2, Fixed, Ssb, Bsb, Sbv, Hsb}
+
+-- the row leaves this of a board with BSB b, SBV v, SSB s and HSB h
+abbrev pub Leaves : Setting → (ℕ → ℕ → ℕ → ℕ → Config) → Type 0
+Leaves x after = (b v s h : ℕ) → withSetting x (config b v s h) ≡ after b v s h
+
+-- the same of HSB alone, which goes from h to `after`
+abbrev pub HsbTo : Setting → ℕ → ℕ → Type 0
+HsbTo x h after = (b v s : ℕ) → withSetting x (config b v s h) ≡ config b v s after
+
+pub record Stored : Type 0 where
+  -- "BSB .. FFh", "SBV .. F0h", "SSB .. FCh", and HSB, from bit 7 on U P U U U P U U, 1011 1011 binary
+  pub delivered : deliveredConfig ≡ config 0xFF 0xF0 0xFC 0xBB
+  -- "Program SSB level1", "Program SSB level2", "Program BSB", "Program SBV"
+  pub level-1 : Leaves SsbLevel1 (λ b v s h. config b v 0xFE h)
+  pub level-2 : Leaves SsbLevel2 (λ b v s h. config b v 0xFC h)
+  pub bsb : (x : ℕ) → Leaves (ToBsb x) (λ b v s h. config x v s h)
+  pub sbv : (x : ℕ) → Leaves (ToSbv x) (λ b v s h. config b x s h)
+  -- "Erase SBV & BSB"; the "Full Chip erase": "BSB = FFh", "SBV = F0h", "SSB = FFh (NO_SECURITY)"
+  pub boot-erased : Leaves BootErased (λ b v s h. config 0xFF 0xF0 s h)
+  pub chip-erased : (b v s h : ℕ) → erasedConfig (config b v s h) ≡ config 0xFF 0xF0 0xFF h
+  -- "Program bit BLJB", "Program bit X2": bit 6 and bit 7 of HSB, the other bits stay; "U: Unprogrammed = 1, P: Program = 0"
+  pub bljb-programmed : (high bit low : ℕ) → bit < 2 → low < 64 → HsbTo (Bljb Programmed) (high * 128 + bit * 64 + low) (high * 128 + 0 + low)
+  pub bljb-unprogrammed : (high bit low : ℕ) → bit < 2 → low < 64 → HsbTo (Bljb Unprogrammed) (high * 128 + bit * 64 + low) (high * 128 + 64 + low)
+  pub x2-programmed : (bit low : ℕ) → bit < 2 → low < 128 → HsbTo (X2 Programmed) (bit * 128 + low) (0 + low)
+  pub x2-unprogrammed : (bit low : ℕ) → bit < 2 → low < 128 → HsbTo (X2 Unprogrammed) (bit * 128 + low) (128 + low)
+  -- the levels that the two rows set
+  pub at-level-1 : (c : Config) → level (withSetting SsbLevel1 c) ≡ L1
+  pub at-level-2 : (c : Config) → level (withSetting SsbLevel2 c) ≡ L2
+  -- "Read SSB", "Read BSB", "Read SBV", "Read HSB"; a fixed byte is told as the row has it
+  pub ssb-told : (b v s h : ℕ) → byteValue Ssb (config b v s h) ≡ s
+  pub bsb-told : (b v s h : ℕ) → byteValue Bsb (config b v s h) ≡ b
+  pub sbv-told : (b v s h : ℕ) → byteValue Sbv (config b v s h) ≡ v
+  pub hsb-told : (b v s h : ℕ) → byteValue Hsb (config b v s h) ≡ h
+  pub fixed-told : (x b v s h : ℕ) → byteValue (Fixed x) (config b v s h) ≡ x

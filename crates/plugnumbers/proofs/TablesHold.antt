@@ -1,0 +1,7 @@
+-- The rows of specs/Tables.antt hold; each is computed.
+-- Assumes nothing.
+use mathlib.Core.Path.{refl}
+use Rattle.plugnumbers.specs.Tables.{Tables}
+
+pub tables : Tables
+tables = record { config = (refl, refl); answered = refl; started-by-reset = refl; started-at = refl; refused = refl }
