@@ -1,41 +1,27 @@
-// The bench program of the serial plug: a file of records on standard input, and on standard output what each was answered. The
-// records of the file are crates/listing's, the loader is crates/serial's; no contract can say that standard input is read to its end,
-// and that what is written reaches standard output.
+// The bench program of the serial plug: a file of records on standard input, and on standard output the text that answers it. What the
+// text is stands in crates/plugrun; here its pieces are handed on one after another. No contract can say that standard input is read to
+// its end, and that what is handed on reaches standard output.
+ghost use mathlib.Core.Logic.{_⊎_};
 ghost use mathlib.Core.Path.{_≡_};
 ghost use Prim.Native.Nat.{suc};
 ghost use lib.ListN.{length};
 ghost use Rattle.listing.specs.Records.{mostFile};
-ghost use Rattle.lines.specs.Line.{mostHead};
+ghost use Rattle.plugrun.specs.Written.{pieces};
+ghost use Rattle.plugrun.specs.Turn.{mostText, IsPiece};
 use libc::STDERR_FILENO;
 use libc::STDIN_FILENO;
 use libc::STDOUT_FILENO;
-use lines::Put;
-use lines::Word;
-use lines::head_line;
-use lines::hex_text;
-use lines::records_line;
-use lines::refused_line;
-use listing::MOST_FILE;
-use listing::Met;
-use listing::count_records;
-use listing::next_record;
-use listing::starts_erased;
-use plug::Config;
-use plug::Outcome;
-use serial::FLASH_SIZE;
-use serial::step;
+use lines::end_of;
+use plugrun::MOST_ANSWER;
+use plugrun::MOST_TEXT;
+use plugrun::Turn;
+use plugrun::blank_flash;
+use plugrun::first_line;
+use plugrun::start;
+use plugrun::take_turn;
 
 // One byte more than a file may have, so that a longer file is seen to be too long.
 const FILE_ROOM: usize = 1048577;
-
-// Room for the longest answer: a display of all flash has 159,744 characters.
-const ANSWER_ROOM: usize = 163840;
-
-// Room for the longest line before an answer.
-const HEAD_ROOM: usize = 66;
-
-// "file too long"
-const TOO_LONG: u8 = 16;
 
 fn file_room() -> [u8; FILE_ROOM]
     ensures { λ r. ⌜ length r ≡ suc mostFile ⌝ }
@@ -43,112 +29,53 @@ fn file_room() -> [u8; FILE_ROOM]
     [0; FILE_ROOM]
 }
 
-fn head_room() -> [u8; HEAD_ROOM]
-    ensures { λ r. ⌜ length r ≡ mostHead ⌝ }
+// Room for the longest text of a record.
+fn text_room() -> [u8; MOST_TEXT]
+    ensures { λ r. ⌜ length r ≡ mostText ⌝ }
 {
-    [0; HEAD_ROOM]
+    [0; MOST_TEXT]
 }
 
-// Writes what was put at the front of a room.
-fn write_put(put: Put, room: &[u8]) -> bool {
-    match put {
-        Put::Upto(end) => write_front(end, room),
-        Put::Unwritten(_) => false,
+// Hands the piece of this number on to standard output; nothing else may be lent to it. Answers the number of the next piece, or 0 where
+// this one could not be written.
+fn write_piece(file: &[u8], number: usize, piece: &[u8]) -> usize
+    requires { ⌜ IsPiece (now file) number (now piece) ⌝ }
+    ensures { λ r. ⌜ (r ≡ 0) ⊎ (r ≡ suc number) ⌝ }
+{
+    if !io::write_all(STDOUT_FILENO, piece) {
+        return 0;
     }
+    number + 1
 }
 
-// Writes the first bytes of a room, if it has so many.
-fn write_front(count: usize, room: &[u8]) -> bool {
-    if room.len() < count {
-        return false;
-    }
-    io::write_all(STDOUT_FILENO, &room[..count])
-}
-
-fn word_of(outcome: Outcome) -> Word {
-    match outcome {
-        Outcome::Answered => Word::Answered,
-        Outcome::StartedReset => Word::Reset,
-        Outcome::StartedAt(_) => Word::Start,
-        Outcome::Refused(number) => Word::Refused(number),
-    }
-}
-
-// What stands before an answer.
-fn write_head(number: usize, outcome: Outcome, pages: usize) -> bool {
-    let mut head = head_room();
-    let put = head_line(number, word_of(outcome), pages, &mut head, 0);
-    write_put(put, &head)
-}
-
-// The four digits of an address, and a line feed.
-fn write_address(address: u16) -> bool {
-    let bytes = [(address / 256) as u8, (address % 256) as u8];
-    let mut text = [b'\n'; 5];
-    hex_text(&bytes, &mut text, 0);
-    io::write_all(STDOUT_FILENO, &text)
-}
-
-// The answer's own characters, an address to start at, or that there is none.
-fn write_answer(outcome: Outcome, count: usize, room: &[u8]) -> bool {
-    match outcome {
-        Outcome::Answered => write_front(count, room),
-        Outcome::StartedReset => io::write_all(STDOUT_FILENO, b"-\n"),
-        Outcome::StartedAt(address) => write_address(address.0),
-        Outcome::Refused(_) => io::write_all(STDOUT_FILENO, b"-\n"),
-    }
-}
-
-// A board after a full chip erase, or a delivered one.
-fn board_for(file: &[u8]) -> Config {
-    if starts_erased(file) {
-        serial::erased()
-    } else {
-        serial::delivered()
-    }
-}
-
-// Takes the records one after another; answers whether all could be written.
-fn run_records(file: &[u8]) -> bool {
-    let mut flash = [0xFF; FLASH_SIZE];
-    let mut room = [0; ANSWER_ROOM];
-    let mut config = board_for(file);
-    let mut number: usize = 1;
-    let mut at: usize = 0;
-    loop {
-        let Met::Record(start, end) = next_record(file, at) else {
-            return true;
-        };
-        let answer = step(config, &file[start..end], &mut flash, &mut room);
-        let outcome = answer.outcome;
-        if !write_head(number, outcome, answer.pages) {
-            return false;
+// Hands all pieces on, the first line and then the text of each record; answers how many they are, or 0 where one could not be written.
+fn write_pieces(file: &[u8]) -> usize
+    ensures { λ r. ⌜ (r ≡ 0) ⊎ (r ≡ length (pieces (now (file .entry)))) ⌝ }
+{
+    let mut flash = blank_flash();
+    let mut reply = [0; MOST_ANSWER];
+    let mut room = text_room();
+    let end = end_of(first_line(file, &mut room));
+    let mut number = write_piece(file, 0, &room[..end]);
+    let mut progress = start(file);
+    while number != 0 {
+        match take_turn(file, number, progress, &mut flash, &mut reply, &mut room) {
+            Turn::Took(next, size) => {
+                number = write_piece(file, number, &room[..size]);
+                progress = next;
+            }
+            Turn::AllTaken => {
+                return number;
+            }
         }
-        if !write_answer(outcome, answer.length, &room) {
-            return false;
-        }
-        config = answer.config;
-        number += 1;
-        at = end;
     }
-}
-
-// Says how many records a file holds and runs them, or refuses a file that is too long.
-fn answer_file(file: &[u8]) -> bool {
-    let mut head = head_room();
-    if MOST_FILE < file.len() {
-        return write_put(refused_line(TOO_LONG, 0, &mut head, 0), &head);
-    }
-    if !write_put(records_line(count_records(file), &mut head, 0), &head) {
-        return false;
-    }
-    run_records(file)
+    0
 }
 
 fn main() {
     let mut file = file_room();
     let size = io::read_full(STDIN_FILENO, &mut file);
-    if !answer_file(&file[..size]) {
+    if write_pieces(&file[..size]) == 0 {
         io::write_all(
             STDERR_FILENO,
             b"plugbench: not all of the answers could be written\n",

@@ -1,16 +1,13 @@
 -- Laws of a run: one request and its line, and what is so far after some of them.
 -- Assumes nothing.
 use mathlib.Core.Path.{_≡_, refl, sym, ap, subst, _∙_}
-use mathlib.Core.Bool.{Bool, true, false}
 use mathlib.Core.List.{List, [], _∷_, _++_, append-assoc, append-nil}
 use Prim.Native.Nat.{ℕ, suc, _+_, _-_, _*_, _≤_, _<_}
 use native.Mathlib.Omega.{arith}
 use native.Mathlib.Numerals.{add-one}
-use lib.Dec.{ltb}
-use lib.ListN.{length, take, drop, replicate, length-replicate, length-drop, length-append}
+use lib.ListN.{length, take, drop, replicate, length-drop, length-append}
 use lib.Seq.{length-take-le, take-take, take-add, take-append-seam, drop-drop, drop-at}
-use borrow.Author.Tests.{le-leb}
-use Rattle.words.specs.Words.{if_then_else_, laid}
+use Rattle.words.specs.Words.{laid}
 use Rattle.config.specs.Config.{deliveredConfig}
 use Rattle.memory.specs.Memory.{eepromSize, blankFlash}
 use Rattle.job.specs.Field.{setupSize}
@@ -24,10 +21,9 @@ use Rattle.job.proofs.WalkLaws.{steps, no-more, walk-job}
 use Rattle.lines.specs.Line.{requestLine, jobLine, refusedLine, mostLine, mostJobLine}
 use Rattle.lines.specs.Room.{put, putEnd, Stands}
 use Rattle.lines.specs.declared.line.Put.{Put}
-use Rattle.lines.specs.declared.line.Put.the-variants.{Upto, Unwritten}
 use Rattle.lines.specs.declared.line.Word.{Word}
 use Rattle.lines.proofs.LineLaws.{requestLine-le}
-use Rattle.lines.proofs.RoomLaws.{none-stands, joined, laid-stands, put-within}
+use Rattle.lines.proofs.RoomLaws.{none-stands, joined, put-stands}
 use Rattle.rules.specs.Session.{idle}
 use Rattle.rules.specs.Result.{Board, board, Result, next}
 use Rattle.rules.specs.declared.answer.Answer.{Answer}
@@ -35,12 +31,8 @@ use Rattle.rules.specs.Answered.{Stepped}
 use Rattle.rules.specs.Refusals.{replySize}
 use Rattle.rules.specs.Step.{ask, deliveredBoard}
 use Rattle.run.specs.Bench.{wordOf, resultLine, asked, lines, bench}
-use Rattle.run.specs.Run.{fewestBytes, mostOutput, answerPut, Placed, answerLine, boardAt, Ran, Ready}
+use Rattle.run.specs.Run.{fewestBytes, mostOutput, Placed, answerLine, boardAt, Ran, Ready}
 use Rattle.run.specs.declared.run.Progress.{Progress}
-
--- the size of an array, said for every size, so that nothing computes an array
-pub array-size : (n b : ℕ) → length (replicate n b) ≡ n
-array-size n b = length-replicate n b
 
 -- ---- one request
 
@@ -81,15 +73,6 @@ module _ (b : Board) (r : Result) (a : Answer) (f e reply reply₀ : List ℕ) (
     line = subst (λ (t : List ℕ). Stands (p .place) t room₀ place room) (answer-line (p .number)) w;
     line-short = h;
   }
-
--- a text that fits stands in the room
-pub put-stands : (place end : ℕ) (text room₀ room : List ℕ) (q : Put) → place + length text ≤ length room₀ → q ≡ put place text room₀
-    → room ≡ laid place text room₀ → end ≡ putEnd q
-    → Stands place text room₀ end room
-unfolding put
-put-stands place end text room₀ room q h e l d =
-    let u : end ≡ place + length text = d ∙ ap putEnd e ∙ rw (le-leb (place + length text) (length room₀) h) in
-    rw u (laid-stands place text room₀ room h l)
 
 -- a request's line fits
 pub line-stands : (number place end : ℕ) (a : Answer) (w : Word) (reply room₀ room : List ℕ) (q : Put)
@@ -234,12 +217,3 @@ pub refused-stands : (file : List ℕ) (k p end : ℕ) (room₀ room : List ℕ)
     → Stands 0 (bench file) room₀ end room
 unfolding bench
 refused-stands file k p end room₀ room g s = rw g s
-
--- an answer that was put ends within the room
-else-was : (t : Bool) (k end : ℕ) (p : Put) → (if t then Unwritten k else p) ≡ Upto end → p ≡ Upto end
-else-was true k end p e = let z : _≡_ {A = ℕ} 0 1 = cc in absurd (omega arith)
-else-was false k end p e = e
-
-pub answer-within : (file room : List ℕ) (p : Put) (end : ℕ) → p ≡ answerPut file room → p ≡ Upto end → end ≤ length room
-unfolding answerPut
-answer-within file room p end e u = put-within 0 end (bench file) room (else-was (ltb (length room) mostOutput) 9 end _ (sym e ∙ u))

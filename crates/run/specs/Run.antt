@@ -2,21 +2,17 @@
 use mathlib.Core.Path.{_≡_}
 use mathlib.Core.List.{List}
 use Prim.Native.Nat.{ℕ, suc, _+_, _*_, _≤_}
-use lib.Dec.{ltb}
 use lib.ListN.{length, take}
-use Rattle.words.specs.Words.{if_then_else_, laid}
 use Rattle.job.specs.Field.{headSize, setupSize}
 use Rattle.job.specs.Verdict.{mostFile}
 use Rattle.job.specs.Requests.{HaveSetups}
 use Rattle.job.specs.Walk.{walk}
 use Rattle.lines.specs.Line.{requestLine, mostLine, mostJobLine}
-use Rattle.lines.specs.Room.{put, Stands}
-use Rattle.lines.specs.declared.line.Put.{Put}
-use Rattle.lines.specs.declared.line.Put.the-variants.{Unwritten}
+use Rattle.lines.specs.Room.{Stands}
 use Rattle.rules.specs.Result.{Board, board, Result, next}
 use Rattle.rules.specs.declared.answer.Answer.{Answer}
 use Rattle.rules.specs.Refusals.{replySize}
-use Rattle.run.specs.Bench.{wordOf, resultLine, bench}
+use Rattle.run.specs.Bench.{wordOf, resultLine}
 use Rattle.run.specs.declared.run.Progress.{Progress}
 
 -- the fewest bytes of a request's field: tag, length and setup
@@ -30,15 +26,6 @@ mostRequests = 1490
 -- room for every job: the line that states the count, and the lines of its requests
 abbrev pub mostOutput : ℕ
 mostOutput = mostJobLine + mostLine * mostRequests
-
--- what the writer of the answer gives: the place after it, or 9, "room too short". A run can't be taken back, so a room that is
--- shorter than the longest answer is refused before it
-unfoldable pub answerPut : List ℕ → List ℕ → Put
-answerPut file room = if ltb (length room) mostOutput then Unwritten 9 else put 0 (bench file) room
-
--- what the room then holds: "refusing, it leaves its room unwritten, and otherwise the room past its answer"
-unfoldable pub answerRoom : List ℕ → List ℕ → List ℕ
-answerRoom file room = if ltb (length room) mostOutput then room else laid 0 (bench file) room
 
 -- a request's value lies in the file and has its setup
 pub record Placed (file : List ℕ) (start size : ℕ) : Type 0 where

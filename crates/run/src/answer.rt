@@ -2,28 +2,25 @@
 ghost use mathlib.Core.Path.{_≡_};
 ghost use Prim.Native.Nat.{_≤_};
 ghost use lib.ListN.{length, replicate};
+ghost use Rattle.words.specs.Words.{overlay};
 ghost use Rattle.memory.specs.Memory.{eepromSize, blankFlash};
 ghost use Rattle.job.specs.Verdict.{verdict};
 ghost use Rattle.job.specs.declared.verdict.Verdict.the-variants.{Accepted};
 ghost use Rattle.rules.specs.Refusals.{replySize};
 ghost use Rattle.lines.specs.Room.{Stands};
 ghost use Rattle.run.specs.Bench.{writtenFor, bench};
-ghost use Rattle.run.specs.Run.{mostOutput, answerPut, answerRoom};
-use crate::run::end_of;
+ghost use Rattle.run.specs.Run.{mostOutput};
 use crate::run::run_all;
 use job::Verdict;
 use job::check_job;
 use job::count_requests;
-use lines::Put;
+use lines::end_of;
 use lines::job_line;
 use lines::refused_line;
 use memory::EEPROM_SIZE;
 use memory::FLASH_SIZE;
 
 const REPLY_SIZE: usize = 1024;
-
-// "room too short"
-const TOO_SHORT: u8 = 9;
 
 // No answer is longer: the line that states the count, and 1,490 lines of requests.
 pub const MOST_OUTPUT: usize = 25 + 2139 * 1490;
@@ -71,14 +68,12 @@ fn write_whole(file: &[u8], room: &mut [u8]) -> usize
     }
 }
 
-// Writes what answers a file of any bytes at the start of the room, and gives the place after it. Refuses a room that is shorter than
-// the longest answer with 9; then the room stays as it was, and otherwise the room past the answer does.
-pub fn write_answer(file: &[u8], room: &mut [u8]) -> Put
-    ensures { λ r. ⌜ r ≡ answerPut (now (file .entry)) (now (room .entry)) ⌝ }
-    ensures { λ _. ⌜ now (room .exit) ≡ answerRoom (now (file .entry)) (now (room .entry)) ⌝ }
+// Writes what answers a file of any bytes at the start of the room, and gives its length. Past the answer the room stays as it was. No
+// room is too short: by its type it takes the longest answer.
+pub fn write_answer(file: &[u8], room: &mut [u8; MOST_OUTPUT]) -> usize
+    ensures { λ r. ⌜ r ≡ length (bench (now (file .entry))) ⌝ }
+    ensures { λ _. ⌜ now (room .exit) ≡ overlay 0 (bench (now (file .entry))) (now (room .entry)) ⌝ }
+    ensures { λ r. ⌜ r ≤ length (now (room .exit)) ⌝ }
 {
-    if room.len() < MOST_OUTPUT {
-        return Put::Unwritten(TOO_SHORT);
-    }
-    Put::Upto(write_whole(file, room))
+    write_whole(file, room)
 }

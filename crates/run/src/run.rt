@@ -7,7 +7,7 @@ ghost use Rattle.job.specs.Verdict.{mostFile};
 ghost use Rattle.job.specs.Requests.{span};
 ghost use Rattle.job.specs.Walk.{walk};
 ghost use Rattle.lines.specs.Line.{mostLine};
-ghost use Rattle.lines.specs.Room.{putEnd, Stands};
+ghost use Rattle.lines.specs.Room.{Stands};
 ghost use Rattle.rules.specs.Session.{idle};
 ghost use Rattle.rules.specs.Refusals.{replySize};
 ghost use Rattle.rules.specs.Result.{board};
@@ -18,8 +18,8 @@ use config::Config;
 use config::delivered;
 use job::Met;
 use job::next_request;
-use lines::Put;
 use lines::Word;
+use lines::end_of;
 use lines::request_line;
 use loader::step;
 use requests::power_up;
@@ -45,16 +45,6 @@ fn word_of(outcome: Outcome) -> Word
         Outcome::Stall => Word::Stall,
         Outcome::Started(_, _) => Word::Start,
         Outcome::Refused(number) => Word::Refused(number),
-    }
-}
-
-// Where a line ends that fits.
-pub(crate) fn end_of(put: Put) -> usize
-    ensures { λ r. ⌜ r ≡ putEnd put ⌝ }
-{
-    match put {
-        Put::Upto(end) => end,
-        Put::Unwritten(_) => 0,
     }
 }
 

@@ -1,6 +1,6 @@
 -- `bench::answer_room` meets its contract.
 -- Assumes nothing.
-use Rattle.run.proofs.RunLaws.{array-size}
+use Rattle.lines.proofs.RoomLaws.{array-size}
 use Rattle.bench.proofs.answer_room.Statement.{statement}
 use Rattle.bench.proofs.answer_room.Tie as tie
 
