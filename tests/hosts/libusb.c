@@ -13,20 +13,17 @@
 #include "side_board_loader.h"
 
 enum { SUCCESS = 0, ERROR_NO_DEVICE = -4, ERROR_NOT_FOUND = -5, ERROR_PIPE = -9 };
-enum { SETUP_SIZE = 8, REPLY_SIZE = 1024, DEVICE_TO_HOST = 0x80, RUNS_APPLICATION = 0 };
-enum { DONE, STALL, START_RESET, START_AT, REFUSED };
+enum { DEVICE_TO_HOST = 0x80 };
 
 // ---- the board and its file; the layout of the numbers stands in crates/exports/c/side_board_loader.h
 
 static struct {
     uint64_t session, config;
     uint16_t busy, unused[3]; // unused, so that the compiler leaves no gap in the file
-    uint8_t flash[32768], eeprom[1024];
+    uint8_t flash[LOADER_FLASH_SIZE], eeprom[LOADER_EEPROM_SIZE];
 } board;
 
-static uint8_t state(void) { return board.session & 0xFF; }
-static uint8_t status(void) { return board.session >> 8 & 0xFF; }
-static unsigned kind(uint64_t outcome) { return outcome & 0xFFFF; }
+static uint8_t state(void) { return loader_state(board.session); }
 
 // Opens the file that a variable names. A run without its board would show nothing, so it ends here.
 static FILE *file_of(const char *variable, const char *mode) {
@@ -59,12 +56,12 @@ static void put_hex(FILE *file, const uint8_t *bytes, size_t count) {
 static void record(const uint8_t *setup, const uint8_t *sent, size_t sent_size, uint64_t outcome, size_t pages, const uint8_t *reply, size_t count) {
     static const char *const words[] = {"done", "stall", "start", "start", "ref"};
     FILE *file = file_of("REQUESTS", "a");
-    put_hex(file, setup, SETUP_SIZE);
+    put_hex(file, setup, LOADER_SETUP_SIZE);
     fputc(' ', file);
     put_hex(file, sent, sent_size);
-    fprintf(file, " %s", words[kind(outcome)]);
-    if (kind(outcome) == REFUSED) fprintf(file, "%u", (unsigned)(outcome >> 16 & 0xFFFF));
-    fprintf(file, " %u %02X %zu ", state(), status(), pages);
+    fprintf(file, " %s", words[loader_outcome_kind(outcome)]);
+    if (loader_outcome_kind(outcome) == LOADER_OUTCOME_REFUSED) fprintf(file, "%u", loader_outcome_value(outcome));
+    fprintf(file, " %u %02X %zu ", state(), loader_status(board.session), pages);
     put_hex(file, reply, count);
     fputc('\n', file);
     fclose(file);
@@ -117,7 +114,7 @@ void libusb_set_debug(libusb_context *context, int level) { (void)context, (void
 ssize_t libusb_get_device_list(libusb_context *context, libusb_device ***list) {
     (void)context;
     static libusb_device *found[2];
-    found[0] = state() == RUNS_APPLICATION ? NULL : &the_device;
+    found[0] = state() == LOADER_STATE_APP_IDLE ? NULL : &the_device;
     *list = found;
     return found[0] != NULL;
 }
@@ -168,9 +165,9 @@ static void set_word(uint8_t *at, uint16_t word) {
 
 // What a host sees of an outcome: a stall is a broken pipe, and what the loader refuses goes unanswered, as from a device that left.
 static int seen(uint64_t outcome, int length) {
-    switch (kind(outcome)) {
-    case STALL: return ERROR_PIPE;
-    case REFUSED: return ERROR_NO_DEVICE;
+    switch (loader_outcome_kind(outcome)) {
+    case LOADER_OUTCOME_STALL: return ERROR_PIPE;
+    case LOADER_OUTCOME_REFUSED: return ERROR_NO_DEVICE;
     default: return length;
     }
 }
@@ -178,15 +175,15 @@ static int seen(uint64_t outcome, int length) {
 int libusb_control_transfer(libusb_device_handle *handle, uint8_t type, uint8_t request, uint16_t value, uint16_t index,
                             unsigned char *data, uint16_t length, unsigned timeout) {
     (void)handle, (void)timeout;
-    uint8_t setup[SETUP_SIZE] = {type, request}, reply[REPLY_SIZE];
+    uint8_t setup[LOADER_SETUP_SIZE] = {type, request}, reply[LOADER_REPLY_SIZE];
     set_word(setup + 2, value);
     set_word(setup + 4, index);
     set_word(setup + 6, length);
     size_t sent_size = type & DEVICE_TO_HOST ? 0 : length, count = 0, pages = 0;
     // The loader wants a pointer that leads somewhere, for no bytes too.
     const uint8_t *sent = sent_size ? data : setup;
-    uint64_t outcome = loader_step(&board.session, &board.busy, &board.config, setup, SETUP_SIZE, sent, sent_size, board.flash,
-                                   sizeof board.flash, board.eeprom, sizeof board.eeprom, reply, REPLY_SIZE, &count, &pages);
+    uint64_t outcome = loader_step(&board.session, &board.busy, &board.config, setup, LOADER_SETUP_SIZE, sent, sent_size, board.flash,
+                                   sizeof board.flash, board.eeprom, sizeof board.eeprom, reply, LOADER_REPLY_SIZE, &count, &pages);
     record(setup, sent, sent_size, outcome, pages, reply, count);
     transfer_board("wb");
     // No answer is longer than wLength, which is the room that the host has.

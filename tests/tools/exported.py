@@ -1,6 +1,7 @@
 """What crates/exports exports, read from three places: the Rattle source, the Rust declarations and the C header; and the layout of its
-numbers, read from the code of crates/numbers and crates/plugnumbers and from the tables of the header; and the most that the busy page
-count may be, read from the code of crates/requests and from the header."""
+numbers, read from the code of crates/numbers and crates/plugnumbers and from the tables of the header; the most that the busy page
+count may be, read from the code of crates/requests and from the header; and the stack that calls take, read from docs/PROMISES.md and
+from the header."""
 import re
 
 RATTLE = {
@@ -164,3 +165,14 @@ def most_busy_of_code(read):
 
 def most_busy_of_header(text):
     return re.findall(r"a count above (\d+) is refused with 6", text)
+
+
+def stack_of_page(text):
+    """What the calls of the count take inside each other, and the most that another exported function takes."""
+    rows = {name: int(size.replace(",", "")) for name, size in re.findall(r"(?m)^\| `(\w+)\(\)`[^|]* \| ([\d,]+) \|", text)}
+    return [rows["count_fields"], max(size for name, size in rows.items() if name.startswith(("loader_", "serial_")))]
+
+
+def stack_of_header(text):
+    told = re.search(r"take up to ([\d,]+) bytes[\s*]+of stack; no other function takes over ([\d,]+)\.", text)
+    return [int(size.replace(",", "")) for size in told.groups()] if told else []

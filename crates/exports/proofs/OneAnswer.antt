@@ -5,6 +5,7 @@ use mathlib.Core.Path.{_≡_}
 use Rattle.words.proofs.OneAnswer.{one}
 use Rattle.exports.proofs.loader_step.Reads as loader-step
 use Rattle.exports.proofs.loader_power_up.Reads as loader-power-up
+use Rattle.exports.proofs.loader_delivered.Reads as loader-delivered
 use Rattle.exports.proofs.loader_read_command.Reads as loader-read-command
 use Rattle.exports.proofs.loader_write_command.Reads as loader-write-command
 use Rattle.exports.proofs.loader_check_job.Reads as loader-check-job
@@ -36,6 +37,9 @@ of-loader-step κs a r r′ s s′ p q = (
 pub of-loader-power-up : (κs : _) (a : _) (r r′ : _) (s s′ : _) → loader-power-up.Post κs a r s → loader-power-up.Post κs a r′ s′
     → (r ≡ r′) × (s .0 .now ≡ s′ .0 .now)
 of-loader-power-up κs a r r′ s s′ p q = (one (p .0) (q .0), one (p .1) (q .1))
+
+pub of-loader-delivered : (κs : _) (a : _) (r r′ : _) (s s′ : _) → loader-delivered.Post κs a r s → loader-delivered.Post κs a r′ s′ → r ≡ r′
+of-loader-delivered κs a r r′ s s′ p q = one p q
 
 pub of-loader-read-command : (κs : _) (a : _) (r r′ : _) (s s′ : _) → loader-read-command.Post κs a r s → loader-read-command.Post κs a r′ s′
     → (r ≡ r′) × (s .1 .0 .now ≡ s′ .1 .0 .now) × (s .1 .1 .0 .now ≡ s′ .1 .1 .0 .now) × (s .1 .1 .1 .0 .now ≡ s′ .1 .1 .1 .0 .now)

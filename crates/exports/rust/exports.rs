@@ -23,6 +23,8 @@ extern "C" {
 
     fn loader_power_up(busy: &mut u16) -> u64;
 
+    fn loader_delivered() -> u64;
+
     fn loader_read_command(sent: *const u8, sent_size: usize, command: &mut u64, body: &mut usize, suffix: &mut usize) -> u8;
 
     fn loader_write_command(
@@ -118,6 +120,12 @@ pub fn power_up() -> (u64, u16) {
     let mut busy = u16::MAX; // what it was before does not count
     let session = unsafe { loader_power_up(&mut busy) };
     (session, busy)
+}
+
+/// The configuration of a board as it is delivered.
+#[inline(always)]
+pub fn delivered() -> u64 {
+    unsafe { loader_delivered() }
 }
 
 /// Reads the data of a DNLOAD: 0, 0Fh or 08h; where it is 0, the command and where its body and its suffix begin.

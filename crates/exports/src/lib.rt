@@ -11,13 +11,14 @@ pub use records::serial_step;
 pub use records::serial_write_record;
 ghost use mathlib.Core.Path.{_≡_};
 ghost use lib.ListN.{length};
+ghost use Rattle.config.specs.Config.{deliveredConfig};
 ghost use Rattle.command.specs.Reader.{readCommand, readingStatus};
 ghost use Rattle.writer.specs.Writer.{writeCommand, roomAfter, writtenNumber, writtenCount};
 ghost use Rattle.job.specs.Requests.{requestCount};
 ghost use Rattle.job.specs.Verdict.{verdict, verdictNumber, verdictPlace};
 ghost use Rattle.rules.specs.Session.{idle};
 ghost use Rattle.rules.specs.Step.{ask};
-ghost use Rattle.numbers.specs.Layout.{packSession, commandOf};
+ghost use Rattle.numbers.specs.Layout.{packSession, packConfig, commandOf};
 ghost use Rattle.exports.specs.Exported.{StepTold, numbered, commandTold, bodyTold, suffixTold};
 use command::Reading;
 use job::Verdict;
@@ -71,6 +72,14 @@ pub extern "C" fn loader_power_up(busy: &mut u16) -> u64
     let session = requests::power_up();
     *busy = session.busy;
     numbers::pack_session(session)
+}
+
+// The configuration of a board as it is delivered.
+#[no_mangle]
+pub extern "C" fn loader_delivered() -> u64
+    ensures { λ r. ⌜ r ≡ packConfig deliveredConfig ⌝ }
+{
+    numbers::pack_config(config::delivered())
 }
 
 // Reads the data of a DNLOAD: 0 with the command and the places of its body and suffix, or 0Fh for a stall, or 08h.

@@ -39,7 +39,8 @@ fn main() -> ExitCode {
     println!("compare: {sequences} sequences and jobs from seed {seed}");
     let (mut tally, mut busy, mut records) = (Tally::default(), Tally::default(), serial::Tally::default());
     let on_plug = |what| format!("on the serial plug\n{what}");
-    let found = first(boards(), &mut tally)
+    let found = delivered()
+        .or_else(|| first(boards(), &mut tally))
         .or_else(|| first(busy::boards(), &mut busy))
         .or_else(|| serial::difference(sequences, seed, &mut records).map(on_plug));
     if let Some(what) = found {
@@ -72,6 +73,11 @@ fn main() -> ExitCode {
         return ExitCode::FAILURE;
     }
     ExitCode::SUCCESS
+}
+
+/// The configuration of a delivered board.
+fn delivered() -> Option<String> {
+    sequence::number("delivered", exports::delivered(), layout::pack_config(&second::Config::DELIVERED))
 }
 
 /// The boards of each level with both memories programmed, those of every SSB value, and those with a byte at an edge of a page.
