@@ -9,6 +9,11 @@ import subprocess
 import sys
 
 ROOT = pathlib.Path(__file__).resolve().parents[2]
+sys.path.insert(0, str(ROOT / "tools"))
+sys.dont_write_bytecode = True
+from fault import Fault  # noqa: E402
+from readable import job_in  # noqa: E402
+
 FENCE = re.compile(r"^```(\w*)\n(.*?)^```$", re.MULTILINE | re.DOTALL)
 
 
@@ -16,30 +21,38 @@ def run(command, given=b"", **more):
     return subprocess.run([str(word) for word in command], input=given, capture_output=True, check=False, **more)
 
 
-def programs(stand_in):
+def bench_program(crate):
+    """The command that starts a proved program, once it is built."""
+    built = run([ROOT / "tests/tools/x86", "program", crate])
+    if built.returncode:
+        sys.exit(f"{crate} is not proved and built: {built.stderr.decode()}")
+    return built.stdout.decode().splitlines()
+
+
+def programs(stand_in, crate="bench", second="second"):
     """The command of each program, once both are built. A stand-in takes the place of ours: it is for trying a test, and the gate
     gives none."""
-    ours, second = stand_in or [ROOT / "bench", "-"], [ROOT / "target/second/release/second"]
-    for building in (ours, [ROOT / "tests/tools/second", "build"]):
-        built = run(building)
-        if built.returncode:
-            sys.exit(f"{building[0]} failed: {built.stderr.decode()}")
-    return {"bench": ours, "second": second}
+    if (built := run([ROOT / "tests/tools/second", "build"])).returncode:
+        sys.exit(f"the second program is not built: {built.stderr.decode()}")
+    return {"bench": stand_in or bench_program(crate), "second": [ROOT / "target/second/release" / second]}
 
 
 def serial_programs(stand_in):
-    """The same for a file of records. The loader ends its answers with CR LF, and ./bench shows them without the CR."""
-    second = ROOT / "target/second/release/listing"
-    commands = programs(stand_in or [ROOT / "bench", "--serial", "-"])
-    return {**commands, "second": ["sh", "-c", f"'{second}' | tr -d '\\r'"]}
+    """The same for a file of records."""
+    return programs(stand_in, "plugbench", "listing")
+
+
+def printed(command, given):
+    """What a program prints for a job or a file of records. The serial loader ends its answers with CR LF, and ./bench shows no CR."""
+    return run(command, given).stdout.replace(b"\r\n", b"\n")
 
 
 def raw_of(text):
     """The raw bytes of a readable job."""
-    made = run([ROOT / "tools/job", "raw", "-"], text.encode())
-    if made.returncode:
-        sys.exit(f"{made.stderr.decode()}in this job:\n{text}")
-    return made.stdout
+    try:
+        return job_in(text.encode()).raw
+    except Fault as fault:
+        sys.exit(f"{fault}, in this job:\n{text}")
 
 
 def page_jobs(page, kind="job"):
@@ -62,12 +75,11 @@ def page_explained(page, kind="job"):
 
 
 def differences(commands, raw, lines):
-    """A sentence for each program that does not print exactly these lines, with nothing on standard error and status 0; ./bench has
-    status 1 where it refuses the file."""
+    """A sentence for each program that does not print exactly these lines, with nothing on standard error and status 0."""
     for name, command in commands.items():
-        status = int(lines.startswith("refused") and command[0] == ROOT / "bench")
         ended = run(command, raw)
-        if (ended.stdout, ended.stderr, ended.returncode) != (lines.encode(), b"", status):
-            pairs = itertools.zip_longest(ended.stdout.decode(errors="replace").splitlines(), lines.splitlines())
+        wrote = ended.stdout.replace(b"\r\n", b"\n")
+        if (wrote, ended.stderr, ended.returncode) != (lines.encode(), b"", 0):
+            pairs = itertools.zip_longest(wrote.decode(errors="replace").splitlines(), lines.splitlines())
             at, told = next(((n, str(line)[:200]) for n, (line, right) in enumerate(pairs, 1) if line != right), (0, "as it should be"))
             yield f"{name}: line {at} is {told!r}, status {ended.returncode}, said {ended.stderr.decode(errors='replace')!r}"

@@ -2,35 +2,30 @@
 taken is for the board to say."""
 from typing import NamedTuple
 
-from commands import counted, place, span
-from names import LEVELS
+from names import BSB, BYTES, FIXED_BYTES, HSB, LEVELS, SBV, SECURITY_BYTE
+from phrases import counted, in_words, span
 
 MARK, DIGITS = ":", "0123456789ABCDEFabcdef"
 FEWEST = 11  # characters of a record without data: the mark, and two for each byte of length, load offset, type and checksum
 MOST_PROGRAM, FLASH_SIZE = 128, 65536
+NOT_OURS = "the loader has no such record"
+HEX_LINES = {0x01: "end", 0x05: "start"}
 
 BLOCKS = {0x00: (0x0000, 0x1FFF), 0x20: (0x2000, 0x3FFF), 0x40: (0x4000, 0x7FFF), 0x80: (0x8000, 0xFFFF)}
 SSB_LEVELS = {0x00: 0xFE, 0x01: 0xFC}  # what the two rows of "Program SSB" write
-FUSES = {0x04: "BLJB", 0x08: "X2"}
+FUSES = {0x04: ("BLJB", 6), 0x08: ("X2", 7)}  # bits of the HSB
 BIT_VALUES = {0: "0, programmed", 1: "1, unprogrammed"}
-READS = {
-    (0x00, 0x00): "the manufacturer",
-    (0x00, 0x01): "the family",
-    (0x00, 0x02): "the product",
-    (0x00, 0x03): "the revision",
-    (0x07, 0x00): "the SSB",
-    (0x07, 0x01): "the BSB",
-    (0x07, 0x02): "the SBV",
-    (0x0B, 0x00): "the HSB",
-    (0x0E, 0x00): "device ID1",
-    (0x0E, 0x01): "device ID2",
-    (0x0F, 0x00): "the version",
-}
+AFTER_ERASE = {BSB: 0xFF, SBV: 0xF0, SECURITY_BYTE: 0xFF}  # what a full chip erase writes besides the flash
+SETTINGS = {(0x07, 0x00): SECURITY_BYTE, (0x07, 0x01): BSB, (0x07, 0x02): SBV, (0x0B, 0x00): HSB}
+READS = {(0x00, at): name for at, name in enumerate(FIXED_BYTES.values())}
+READS |= {code: BYTES[index] for code, index in SETTINGS.items()}
+READS |= {(0x0E, 0x00): "device ID1", (0x0E, 0x01): "device ID2", (0x0F, 0x00): "the version"}
 
 
 class Record(NamedTuple):
-    """A record: its kind, its words, for a range of flash its start and end, and for a program record its bytes. A kind `none` is no
-    command, and `why` says why. A wrong checksum stands beside the one that the bytes need."""
+    """A record: its kind, its words, for a range of flash its start and end, for a program record its bytes, for a start at an address
+    that address; which byte it reads; and which bytes of the configuration it writes, each with its value and the bits that it changes.
+    A kind `none` is no command, and `why` says why; `passed over` is a line that only a HEX file needs."""
 
     kind: str
     words: str
@@ -38,12 +33,16 @@ class Record(NamedTuple):
     end: int = -1
     given: bytes = b""
     why: str = ""
-    checksum: tuple = ()
+    address: int | None = None
+    byte: int | None = None
+    written: tuple = ()
+    whole: bool = False  # an erase of the full chip
+    damaged: bool = False  # its checksum does not fit its bytes
 
     @property
     def fault(self):
         """Why a board answers 17, as far as the record's own characters tell; empty where they tell nothing."""
-        if self.kind == "none":
+        if self.kind in ("none", "passed over"):
             return self.why
         if self.kind == "program" and not 0 < len(self.given) <= MOST_PROGRAM:
             return f"a program record has 1 to {MOST_PROGRAM} bytes, and this has {len(self.given)}"
@@ -78,31 +77,42 @@ def on_range(kind, start, end, given=b""):
     if kind == "program" and not given:
         return Record(kind, f"program nothing at {start:04X}h", start, end)
     of = "of " if kind == "blank check" else ""
-    return Record(kind, f"{kind} {of}{place('flash', start, end)}", start, end, given)
+    return Record(kind, f"{kind} {of}{in_words('flash', start, end)}", start, end, given)
 
 
 def change(given):
     """The rows of type 03h."""
     match list(given):
         case [0x07]:
-            return Record("erase", "erase the full chip", 0, FLASH_SIZE - 1)
+            return Record("erase", "erase the full chip", 0, FLASH_SIZE - 1, whole=True)
         case [0x01, code] if code in BLOCKS:
             start, end = BLOCKS[code]
             return Record("erase", f"erase flash {span(start, end)}", start, end)
         case [0x03, 0x00]:
             return Record("start", "start by reset")
         case [0x03, 0x01, high, low]:
-            return Record("start", f"start at {high:02X}{low:02X}h")
+            return Record("start", f"start at {high:02X}{low:02X}h", address=high * 256 + low)
         case [0x04, 0x00]:
-            return Record("write", "erase the SBV and the BSB")
+            return Record("write", "erase the SBV and the BSB", written=tuple((index, AFTER_ERASE[index], 0xFF) for index in (BSB, SBV)))
         case [0x05, code] if code in SSB_LEVELS:
             value = SSB_LEVELS[code]
-            return Record("write", f"write {value:02X}h to the SSB, {LEVELS[value].partition(':')[0]}")
+            return Record("write", f"write {value:02X}h to the SSB, level {LEVELS[value]}", written=((SECURITY_BYTE, value, 0xFF),))
         case [0x06, (0x00 | 0x01) as code, value]:
-            return Record("write", f"write {value:02X}h to the {'SBV' if code else 'BSB'}")
+            index = SBV if code else BSB
+            return Record("write", f"write {value:02X}h to {BYTES[index]}", written=((index, value, 0xFF),))
         case [0x0A, code, bit] if code in FUSES and bit in BIT_VALUES:
-            return Record("write", f"set the bit {FUSES[code]} to {BIT_VALUES[bit]}")
+            name, at = FUSES[code]
+            return Record("write", f"set the bit {name} to {BIT_VALUES[bit]}", written=((HSB, bit << at, 1 << at),))
     return no_command(f"type 03h with {counted(len(given))} of data, {given.hex(' ').upper() or 'none'}, is no command")
+
+
+def of_hex_file(kind, given):
+    """Lines that a HEX file has and the loader has not: its end, where its program starts, and the base of the addresses that follow."""
+    if kind in HEX_LINES:
+        return Record("passed over", f"the {HEX_LINES[kind]} line of a HEX file", why=NOT_OURS)
+    if not any(given):
+        return Record("passed over", "the address line, for the base 0000h, of a HEX file", why=NOT_OURS)
+    return no_command(f"a HEX file's address line, for the base {given.hex().upper()}h: what follows it belongs elsewhere")
 
 
 def command(kind, offset, given):
@@ -115,7 +125,9 @@ def command(kind, offset, given):
             start, end = int.from_bytes(given[:2], "big"), int.from_bytes(given[2:4], "big")
             return on_range("blank check" if code else "display", start, end)
         case 0x05, [first, second] if (first, second) in READS:
-            return Record("read", f"read {READS[first, second]}")
+            return Record("read", f"read {READS[first, second]}", byte=SETTINGS.get((first, second)))
+        case (0x01, []) | ((0x02 | 0x04), [_, _]) | (0x05, [_, _, _, _]):
+            return of_hex_file(kind, given)
         case (0x04 | 0x05), _:
             return no_command(f"type {kind:02X}h with {counted(len(given))} of data, {given.hex(' ').upper() or 'none'}, is no command")
     return no_command(f"type {kind:02X}h is no command")
@@ -128,5 +140,4 @@ def record(characters):
         return no_command(fault)
     whole = bytes.fromhex(text[1:])
     asked = command(whole[3], int.from_bytes(whole[1:3], "big"), whole[4:-1])
-    needed = -sum(whole[:-1]) % 256
-    return asked if whole[-1] == needed else asked._replace(checksum=(whole[-1], needed))
+    return asked._replace(damaged=sum(whole) % 256 != 0)
