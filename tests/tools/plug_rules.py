@@ -1,11 +1,10 @@
-"""The serial plug's section of docs/RULES.md, held to the definitions of crates/plug and crates/record: tests/gate/rules_page runs each
-part. All of these definitions can be worked out; of those that speak of all boards, LevelTwo's, a part tries boards."""
+"""docs/RULES-SERIAL.md, held to the definitions of crates/plug and crates/record: tests/gate/rules_page runs each part. All of these
+definitions can be worked out; of those that speak of all boards, LevelTwo's, a part tries boards."""
 import itertools
 import re
 
 from page import number, numbers
 
-SECTION = "\n## The serial plug (P2)\n"
 A, E, AT, VALUE, ROOM = 0x0102, 0x0134, 0x2A35, 0x7E, 4096
 BITS = {0x00: ("Programmed",), 0x01: ("Unprogrammed",)}  # "U: Unprogrammed = 1, P: Program = 0" of 002
 BYTES = {"BSB": "boot status byte", "SBV": "software boot vector", "SSB": "software security byte", "HSB": "hardware security byte"}
@@ -67,13 +66,10 @@ def shown(first, last, flash):
 
 class Plug:
     def __init__(self, page, given):
-        self.page, self.given, self.same, self.table = page, given, page.same, page.table
+        self.page, self.given = page, given
+        self.same, self.table, self.sentence = page.same, page.table, page.sentence
         self.size = given("plug:flashSize")
         self.config = {"bsb": 0x11, "sbv": 0x22, "ssb": 0xFF, "hsb": 0x9C}
-
-    def sentence(self, pattern):
-        """The numbers of a sentence of the section."""
-        return numbers(re.search(pattern, " ".join(self.page.text.split(SECTION)[1].split()))[0])
 
     def board(self, flash=None, **changed):
         return {"config": {**self.config, **changed}, "flash": [0x5A] * self.size if flash is None else flash}
@@ -83,8 +79,8 @@ class Plug:
 
     def rows(self):
         """Each row of the commands, once for each bit: its phrase, the command, the type, the data and the answer's name."""
-        delivered = {row[0]: number(row[2]) for row in self.table("What the plug stores", 1)}
-        for (kind, _, template, words, answer), bit in itertools.product(self.table("Commands of the plug"), BITS):
+        delivered = {row[0]: number(row[2]) for row in self.table("What is stored", 1)}
+        for (kind, _, template, words, answer), bit in itertools.product(self.table("Commands"), BITS):
             phrase = re.split(r",| from the offset", words)[0]
             name = phrase.removeprefix("read ").removeprefix("the ")
             case = cases(bit).get(phrase) or ("Read", ("Fixed", delivered[DEVICE.get(name, name)]))
@@ -153,14 +149,14 @@ class Plug:
     # ---- the commands
 
     def commands(self):
-        for kind, length, template, words, _ in self.table("Commands of the plug"):
+        for kind, length, template, words, _ in self.table("Commands"):
             if kind != "00h":
                 self.same(len(filled(template, 0)), number(length), f"the length of {template}")
         for phrase, case, kind, data, _ in self.rows():
             for offset in (0, A):
                 told = ("some", ("Program", address(offset)) if kind == 0 else case)
                 self.same(self.given("plug:form", kind, offset, data), told, f"{phrase}, with offset {offset:04X}h")
-        (program,) = [row for row in self.table("Commands of the plug") if row[0] == "00h"]
+        (program,) = [row for row in self.table("Commands") if row[0] == "00h"]
         least, most = numbers(program[1])
         for n, at, good in ((least, 0, 1), (least - 1, 0, 0), (most, 0, 1), (most + 1, 0, 0), (1, 0xFFFF, 1), (2, 0xFFFF, 0)):
             self.same(self.given("plug:badRange", ("Program", address(at)), n), not good, f"that {n} bytes to program at {at:04X}h are refused")
@@ -168,7 +164,7 @@ class Plug:
     def no_other_commands(self):
         """Nothing is a command but what the page lists, tried by type, length, the first two bytes and the last."""
         templates = {}
-        for kind, _, template, *_ in self.table("Commands of the plug"):
+        for kind, _, template, *_ in self.table("Commands"):
             templates.setdefault(number(kind), []).append(template)
         self.same(sorted(templates), numbers({row[0]: row[2] for row in self.table("A record")}["type"]), "the types")
         some = list(itertools.product(range(1, 256), range(1), [0], [0], [0]))
@@ -212,8 +208,8 @@ class Plug:
     def levels(self):
         """What each level says to each command, by its definition and by a record that is sent."""
         self.same(True, "\n| what is asked | level 0 | level 1 | level 2 |\n" in self.page.text, "the columns of the plug's level table")
-        told = {phrase: row[1:] for row in self.table("Levels of the plug") for phrase in row[0].split(", ")}
-        named = [phrase for row in self.table("Levels of the plug") for phrase in row[0].split(", ")]
+        told = {phrase: row[1:] for row in self.table("Levels") for phrase in row[0].split(", ")}
+        named = [phrase for row in self.table("Levels") for phrase in row[0].split(", ")]
         every = {re.sub(r"(?<=program) (by|at) .*", "", phrase) for phrase, *_ in self.rows()}
         self.same(sorted(every), sorted(named), "the commands of the plug's level table, each once")
         for phrase, case, kind, data, _ in self.rows():
@@ -229,7 +225,7 @@ class Plug:
     # ---- answers
 
     def answers(self):
-        rows = {row[0]: row for row in self.table("Answers of the plug")}
+        rows = {row[0]: row for row in self.table("Answers")}
         self.same(["`.`", "a value", "an address", "lines", "X", "P", "none"], list(rows), "the answers")
         self.same([13, 10], self.given("plug:lineEnd"), "CR and LF")
         blank = [value for value in range(256) if self.given("usedIn", 0, 0, [value]) == ("none",)]
@@ -254,7 +250,7 @@ class Plug:
 
     def displays(self):
         flash = [(3 * i + i // 256) % 256 for i in range(self.size)]
-        for first, last, lines, room in ([number(cell) for cell in row] for row in self.table("Answers of the plug", 1)):
+        for first, last, lines, room in ([number(cell) for cell in row] for row in self.table("Answers", 1)):
             what = f"a display from {first:04X}h to {last:04X}h"
             self.same(self.given("plug:lineCount", first, last), lines, f"the lines of {what}")
             self.same(len(shown(first, last, flash)), room, f"the characters of {what}")
@@ -280,7 +276,7 @@ class Plug:
             yield self.board([0x5A] * size, ssb=ssb), made[cut] if isinstance(cut, slice) else [*made[:-1], *cut]
 
     def order(self):
-        rows = self.table("The order of the plug")
+        rows = self.table("The order")
         asked = ["flash", "characters", "sum", "row", "level"]
         self.same([f"{n}. the {word}" for n, word in enumerate(asked, 1)], [re.match(r"\d. the \w+", row[0])[0] for row in rows], "the order")
         told = [numbers(row[0])[1:] for row in rows]
@@ -325,7 +321,7 @@ class Plug:
 
     def stored(self):
         """Pages and configuration after each command."""
-        told = {row[0]: row[1:] for row in self.table("What the plug stores")}
+        told = {row[0]: row[1:] for row in self.table("What is stored")}
         every = {phrase for phrase, *_ in self.rows()}
         self.same(set(told) - every, {"any other"}, "the commands that store")
         for phrase, case, kind, data, _ in self.rows():
@@ -342,7 +338,7 @@ class Plug:
 
     def flash_after(self):
         """Every byte of the flash after each command: the range has the new bytes, the rest stays."""
-        blocks = {row[3].split(",")[0]: numbers(row[3])[1:] for row in self.table("Commands of the plug") if row[3].startswith("erase block")}
+        blocks = {row[3].split(",")[0]: numbers(row[3])[1:] for row in self.table("Commands") if row[3].startswith("erase block")}
         before, (erased,) = [(5 * i + i // 128) % 256 for i in range(self.size)], self.sentence(r"An erase sets its bytes to \w+")
         for phrase, _, kind, data, _ in self.rows():
             board, after = self.board(before), list(before)
@@ -355,7 +351,7 @@ class Plug:
             self.same(differ[:8], [], f"the addresses that are wrong after {phrase}")
 
     def bytes_delivered(self):
-        rows = self.table("What the plug stores", 1)
+        rows = self.table("What is stored", 1)
         self.same([*BYTES, *FIXED], [row[0] for row in rows], "the bytes of the plug")
         self.same(list(BYTES.values()), [row[1].split(";")[0] for row in rows[:4]], "their names spelled out")
         delivered, erased = self.given("plug:deliveredConfig"), self.given("plug:erasedConfig", self.config)

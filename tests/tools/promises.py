@@ -2,7 +2,6 @@
 
 A function promises by an `ensures` and asks by a `requires`. A function can be called from outside if it is `pub`, stands in a
 library, and every module on the way to it is `pub mod`, or if it, or the type whose method it is, is passed on by a `pub use`."""
-import pathlib
 import re
 
 CLAUSE = re.compile(r"\s*(requires|ensures|ghost)\b[^{]*\{")
