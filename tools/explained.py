@@ -29,8 +29,9 @@ class Explained:
 
     def before_change(self, number, what):
         """A change of the board is asked for. By the first the SSB has to be read, and who read another level than 0 changes nothing."""
-        if not self.touched and self.level is None and not self.unread:
-            self.wrong("level", number, f"NOBODY HAD READ THE SSB before {what}.")
+        sentence = f"NOBODY HAD READ THE SSB before {what}."
+        if not self.touched and self.level is None:
+            self.sheet.told_elsewhere("level", number, sentence) if self.unread else self.wrong("level", number, sentence)
         self.touched = True
         if self.closed:
             self.sheet.wrong("level", *self.closed[:2])
@@ -95,9 +96,9 @@ class Explained:
         if self.closed and not self.closed[2]:
             self.sheet.wrong("level", *self.closed[:2])
         self.lines += ["", *summary, *self.ledger.read_back()]
-        for memory, start, end, request, erased, failed in self.ledger.never_read():
-            if not failed:
-                self.sheet.wrong("read", *self.ledger.unread_sentence(memory, start, end, request, erased))
+        for *left, failed in self.ledger.never_read():
+            note = self.sheet.told_elsewhere if failed else self.sheet.wrong
+            note("read", *self.ledger.unread_sentence(*left))
         self.against_tables()
         if self.lines[-1]:
             self.lines.append("")

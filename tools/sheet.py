@@ -58,11 +58,16 @@ class Sheet:
     def __init__(self, to_sign_by):
         self.lines, self.thing, self.whole, self.note = to_sign_by
         self.reasons, self.following = [], {}  # the number of a request: how many failed because of it
+        self.spare = []  # reasons that another reason should tell already
         self.barred = False  # whether the level refused something
         self.tried = self.programmed = False  # whether something was to be programmed, and whether something was
 
     def wrong(self, line, number, sentence):
         self.reasons.append(Reason(line, number, sentence))
+
+    def told_elsewhere(self, line, number, sentence):
+        """What is wrong because of something that is told where it stands; it counts only where nothing is told."""
+        self.spare.append(Reason(line, number, sentence))
 
     def follows(self, number):
         self.following[number] = self.following.get(number, 0) + 1
@@ -88,6 +93,7 @@ class Sheet:
 
     def verdict(self, places):
         """The status, and the lines of the verdict. Who only looks, or erases, or changes the level has nothing to sign."""
+        self.reasons = self.reasons or self.spare
         if not self.tried:
             self.reasons = [reason for reason in self.reasons if reason.line in WENT_WRONG]
         elif not self.programmed and not self.reasons:

@@ -43,9 +43,10 @@ class Asked:
 
     def left(self, request=None):
         """The waiting one was left before it was seen done; a stall is told where it stands."""
-        if self.waiting and not (request and request.answer == "stall"):
+        if self.waiting:
             sentence = ONCE if self.burning else ONLY_ONE if self.seen else NEVER
-            self.sheet.wrong("burnt" if self.seen else "asked", self.waiting.number, sentence)
+            note = self.sheet.told_elsewhere if request and request.answer == "stall" else self.sheet.wrong
+            note("burnt" if self.seen else "asked", self.waiting.number, sentence)
 
 
 class ExplainedJob(Explained):
