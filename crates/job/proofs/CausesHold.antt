@@ -51,4 +51,6 @@ causes = record {
   none-held = λ file h. rw (lt-ltb mostFile (length file) h);
   accepted-0 = (refl, refl);
   refused-k = λ k p. (refl, refl);
+  request-met = λ start size. (refl, refl, refl);
+  none-met = (refl, refl, refl);
 }

@@ -7,6 +7,7 @@ use Rattle.words.specs.Words.{byteAt, highFirst}
 use Rattle.job.specs.Field.{fieldRefusal}
 use Rattle.job.specs.Verdict.{verdict, Accepted, Refused, verdictNumber, verdictPlace}
 use Rattle.job.specs.Requests.{requestsOf}
+use Rattle.job.specs.Walk.{Request, NoMore, metTag, metStart, metSize}
 
 -- a field at a place in what ends at `end`: three bytes or more are left, and its value ends there or before
 pub record Whole (file : List ℕ) (at end : ℕ) : Type 0 where
@@ -38,3 +39,6 @@ pub record Causes : Type 0 where
   -- the number of a verdict, 0 where the job is accepted, and its place
   pub accepted-0 : (verdictNumber Accepted ≡ 0) × (verdictPlace Accepted ≡ 0)
   pub refused-k : (k p : ℕ) → (verdictNumber (Refused k p) ≡ k) × (verdictPlace (Refused k p) ≡ p)
+  -- "01h: a request", with where its value begins and how long it is; and that there is no more
+  pub request-met : (start size : ℕ) → let m = Request start size in (metTag m ≡ 0x01) × (metStart m ≡ start) × (metSize m ≡ size)
+  pub none-met : (metTag NoMore ≡ 0) × (metStart NoMore ≡ 0) × (metSize NoMore ≡ 0)

@@ -3,9 +3,11 @@
 use mathlib.Core.Path.{refl, ap}
 use native.Mathlib.Omega.{arith}
 use Rattle.plug.specs.Config.{config}
+use Rattle.plug.specs.Step.{perform}
 use Rattle.plug.specs.Stored.{Stored}
 
 pub stored : Stored
+unfolding perform
 stored = record {
   delivered = refl;
   level-1 = λ b v s h. refl;
@@ -25,4 +27,13 @@ stored = record {
   sbv-told = λ b v s h. refl;
   hsb-told = λ b v s h. refl;
   fixed-told = λ x b v s h. refl;
+  write-stores = λ s b d. refl;
+  chip-stores = λ b d. refl;
+  program-leaves = λ a b d. refl;
+  display-leaves = λ a e b d. refl;
+  check-leaves = λ a e b d. refl;
+  block-leaves = λ k b d. refl;
+  read-leaves = λ x b d. refl;
+  reset-leaves = λ b d. refl;
+  start-leaves = λ a b d. refl;
 }

@@ -33,8 +33,10 @@ pub record Said : Type 0 where
   pub p : securityText ≡ 0x50 ∷ crLf
   pub value : valueText 0x3C ≡ 0x33 ∷ 0x43 ∷ 0x2E ∷ crLf
   pub first-wrong : blankText (some 0x1A2B) ≡ 0x31 ∷ 0x41 ∷ 0x32 ∷ 0x42 ∷ crLf
+  pub first-wrong-high : blankText (some 0xFEDC) ≡ ascii "FEDC" ++ crLf
   -- ""Address = data " & "CR" & "LF"", of the bytes at 0001h and 0002h
   pub line : displayLine 0x0001 0x0002 (0xFF ∷ 0x12 ∷ 0xAB ∷ 0xFF ∷ []) ≡ ascii "0001=12AB" ++ crLf
+  pub line-high : displayLine 0xFEDC 0xFEDC [] ≡ ascii "FEDC=" ++ crLf
   -- `X` and `P` are answers; a refusal has its number and says nothing
   pub told-answers : (c : Config) (t : List ℕ) → (told c t .outcome ≡ Answered) × (told c t .text ≡ t)
   pub refused-numbered : (c : Config) (n : ℕ) → (refused c n .outcome ≡ Refused n) × (refused c n .text ≡ [])

@@ -1,10 +1,15 @@
 -- 002's configuration bytes: how a board is delivered, what each row of "Program Configuration Information" stores and what each row of
 -- "Read Configuration Information" tells. Proved in proofs/StoredHolds.antt.
 use mathlib.Core.Path.{_≡_}
+use mathlib.Core.List.{List}
 use Prim.Native.Nat.{ℕ, _+_, _*_, _<_}
+use Rattle.memory.specs.declared.address.FlashAddress.{FlashAddress}
 use Rattle.config.specs.declared.level.Level.the-variants.{L1, L2}
 use Rattle.plug.specs.Config.{Config, config, deliveredConfig, erasedConfig, level, withSetting, byteValue, Programmed, Unprogrammed}
-use Rattle.plug.specs.Config.{Setting, SsbLevel1, SsbLevel2, BootErased, ToBsb, ToSbv, Bljb, X2, Fixed, Ssb, Bsb, Sbv, Hsb}
+use Rattle.plug.specs.Config.{Setting, SsbLevel1, SsbLevel2, BootErased, ToBsb, ToSbv, Bljb, X2, Byte, Fixed, Ssb, Bsb, Sbv, Hsb}
+use Rattle.plug.specs.Levels.{Command, Program, Display, BlankCheck, EraseBlock, EraseChip, Write, Read, StartReset, StartAt}
+use Rattle.plug.specs.Commands.{Block}
+use Rattle.plug.specs.Step.{Board, perform}
 
 -- the row leaves this of a board with BSB b, SBV v, SSB s and HSB h
 abbrev pub Leaves : Setting → (ℕ → ℕ → ℕ → ℕ → Config) → Type 0
@@ -13,6 +18,10 @@ Leaves x after = (b v s h : ℕ) → withSetting x (config b v s h) ≡ after b 
 -- the same of HSB alone, which goes from h to `after`
 abbrev pub HsbTo : Setting → ℕ → ℕ → Type 0
 HsbTo x h after = (b v s : ℕ) → withSetting x (config b v s h) ≡ config b v s after
+
+-- on every board, whatever the record's data, the command leaves this of the configuration
+abbrev pub StoresOf : Command → (Config → Config) → Type 0
+StoresOf k after = (b : Board) (d : List ℕ) → perform b k d .config ≡ after (b .config)
 
 pub record Stored : Type 0 where
   -- "BSB .. FFh", "SBV .. F0h", "SSB .. FCh", and HSB, from bit 7 on U P U U U P U U, 1011 1011 binary
@@ -39,3 +48,13 @@ pub record Stored : Type 0 where
   pub sbv-told : (b v s h : ℕ) → byteValue Sbv (config b v s h) ≡ v
   pub hsb-told : (b v s h : ℕ) → byteValue Hsb (config b v s h) ≡ h
   pub fixed-told : (x b v s h : ℕ) → byteValue (Fixed x) (config b v s h) ≡ x
+  -- a command that is done stores what its row says, and one whose row writes no byte leaves them
+  pub write-stores : (s : Setting) → StoresOf (Write s) (withSetting s)
+  pub chip-stores : StoresOf EraseChip erasedConfig
+  pub program-leaves : (a : FlashAddress) → StoresOf (Program a) (λ c. c)
+  pub display-leaves : (a e : FlashAddress) → StoresOf (Display a e) (λ c. c)
+  pub check-leaves : (a e : FlashAddress) → StoresOf (BlankCheck a e) (λ c. c)
+  pub block-leaves : (k : Block) → StoresOf (EraseBlock k) (λ c. c)
+  pub read-leaves : (x : Byte) → StoresOf (Read x) (λ c. c)
+  pub reset-leaves : StoresOf StartReset (λ c. c)
+  pub start-leaves : (a : FlashAddress) → StoresOf (StartAt a) (λ c. c)

@@ -1,13 +1,15 @@
 -- What stops a command, in order, and what an accepted one sets.
 -- Assumes nothing.
-use mathlib.Core.Path.{refl, sym, subst}
+use mathlib.Core.Path.{_≡_, refl, sym, ap, subst}
 use mathlib.Core.List.{List}
+use mathlib.Core.Option.{Option, none, some}
 use Prim.Native.Nat.{ℕ, _<_}
 use native.Mathlib.Omega.{arith}
 use lib.ListN.{length}
 use borrow.Author.Tests.{ne-eqb}
 use Rattle.memory.specs.declared.address.FlashAddress.{FlashAddress}
-use Rattle.config.specs.Config.{configByte}
+use Rattle.config.specs.Bytes.{config}
+use Rattle.config.specs.Config.{configByte, withByte, withHsb}
 use Rattle.config.specs.declared.config.Config.{Config}
 use Rattle.blank.specs.Blank.{usedIn}
 use Rattle.blank.proofs.BlankLaws.{usedIn-some, usedIn-none}
@@ -20,7 +22,7 @@ use Rattle.command.specs.declared.command.Command.the-variants.{StartReset, Sta
 use Rattle.rules.specs.Session.{OneByte}
 use Rattle.rules.specs.Result.{Board}
 use Rattle.rules.specs.Commands.{perform, blankEffect, obey, obeyForm}
-use Rattle.rules.specs.Accepted.{Order, CommandOrder, Checked, ByteOf, Sets, Accepts, AcceptedSets}
+use Rattle.rules.specs.Accepted.{Order, CommandOrder, Checked, ByteOf, Sets, ByteWritten, HsbWritten, Configures, Accepts, AcceptedSets}
 use Rattle.rules.proofs.RefusalOrderHolds.{bad-told}
 use Rattle.rules.proofs.StatesHold.{stall-told}
 use Rattle.rules.proofs.Shape.{Passed, accepted-did}
@@ -86,7 +88,46 @@ performed b ReadVersion d p = (refl, refl)
 performed b (ReadByte i) d p = (refl, byte-of i (b .config))
 performed b ReadHsb d p = (refl, refl)
 
+byte-written : (i v : ℕ) (c : Config) → ByteWritten i v c (withByte i v c)
+byte-written i v c = record {
+  bsb = λ q. rw q;
+  sbv = λ q. rw q;
+  p1cf = λ q. rw q;
+  p3cf = λ q. rw q;
+  p4cf = λ q. rw q;
+  ssb = λ q. rw q;
+  eb = λ q. rw q;
+}
+
+hsb-written : (v : ℕ) (c : Config) → HsbWritten v c (withHsb v c)
+hsb-written v c high x y low p q e f = ap (config (c .bsb) (c .sbv) (c .p1cf) (c .p3cf) (c .p4cf) (c .ssb) (c .eb)) (omega (arith, e, f))
+
+configured : (b : Board) (k : Command) (d : List ℕ) → Configures k (b .config) (perform b k d .config)
+unfolding perform
+configured b (ProgramFlash a e) d = refl
+configured b (ProgramEeprom a e) d = refl
+configured b (Read r) d = refl
+configured b (BlankCheck a e) d = found (usedIn (a .0) (e .0) (b .flash))
+  where
+    found : (x : Option ℕ) → blankEffect (b .config) x .config ≡ b .config
+    found none = refl
+    found (some x) = refl
+configured b (EraseBlock k) d = refl
+configured b EraseChip d = refl
+configured b (WriteByte i v) d = byte-written i v (b .config)
+configured b (WriteHsb v) d = hsb-written v (b .config)
+configured b StartReset d = refl
+configured b (StartAt a) d = refl
+configured b ReadVersion d = refl
+configured b (ReadByte i) d = refl
+configured b ReadHsb d = refl
+
 pub accepted-sets : AcceptedSets
 accepted-sets b setup d n k e =
     let a = accepted-did b setup d n k e in
-    subst (Accepts b k) (sym (a .answer)) (record { nothing-sent = refl; in-state-3 = refl; sets = performed b k d (a .passed) })
+    subst (Accepts b k) (sym (a .answer)) (record {
+      nothing-sent = refl;
+      in-state-3 = refl;
+      sets = performed b k d (a .passed);
+      configures = configured b k d;
+    })

@@ -50,6 +50,8 @@ module _ (b : Board) (setup d : List ℕ) (n : ℕ) (passed : refusal b setup d 
   unfolding respond dnload endDownload endPlain
   by-state = record {
     status-asked = λ e. rw (answered _ e);
+    count-cleared = λ e four. rw (answered _ e, four);
+    count-kept = λ e h. rw (answered _ e, ne-eqb (b .session .state) 4 h);
     state-asked = λ e. answered _ e;
     cleared = λ e ten. answered _ e ∙ rw ten;
     not-cleared = λ e h. stalled _ e (rw (ne-eqb (b .session .state) 10 h));

@@ -4,9 +4,10 @@ use mathlib.Core.Path.{_≡_}
 use mathlib.Core.Bool.{true, false}
 use mathlib.Core.List.{List, []}
 use mathlib.Core.Option.{none, some}
-use Prim.Native.Nat.{ℕ, _≤_, _<_}
+use Prim.Native.Nat.{ℕ, _+_, _*_, _≤_, _<_}
 use lib.ListN.{getD}
 use Rattle.memory.specs.Memory.{flashAddress}
+use Rattle.config.specs.Bytes.{config}
 use Rattle.config.specs.Level.{level}
 use Rattle.config.specs.declared.config.Config.{Config}
 use Rattle.command.specs.Form.{form}
@@ -82,11 +83,43 @@ Sets ReadVersion b = Pends (OneByte 0x12)
 Sets (ReadByte i) b = λ status pending. (status ≡ 0x00) × ByteOf i (b .config) pending
 Sets ReadHsb b = Pends (OneByte (b .config .hsb))
 
+-- "04h, 01h, index 00h-06h, value | write configuration byte": one of the eight bytes, and the others stay
+pub record ByteWritten (i v : ℕ) (c after : Config) : Type 0 where
+  pub bsb : i ≡ 0x00 → after ≡ config v (c .sbv) (c .p1cf) (c .p3cf) (c .p4cf) (c .ssb) (c .eb) (c .hsb)
+  pub sbv : i ≡ 0x01 → after ≡ config (c .bsb) v (c .p1cf) (c .p3cf) (c .p4cf) (c .ssb) (c .eb) (c .hsb)
+  pub p1cf : i ≡ 0x02 → after ≡ config (c .bsb) (c .sbv) v (c .p3cf) (c .p4cf) (c .ssb) (c .eb) (c .hsb)
+  pub p3cf : i ≡ 0x03 → after ≡ config (c .bsb) (c .sbv) (c .p1cf) v (c .p4cf) (c .ssb) (c .eb) (c .hsb)
+  pub p4cf : i ≡ 0x04 → after ≡ config (c .bsb) (c .sbv) (c .p1cf) (c .p3cf) v (c .ssb) (c .eb) (c .hsb)
+  pub ssb : i ≡ 0x05 → after ≡ config (c .bsb) (c .sbv) (c .p1cf) (c .p3cf) (c .p4cf) v (c .eb) (c .hsb)
+  pub eb : i ≡ 0x06 → after ≡ config (c .bsb) (c .sbv) (c .p1cf) (c .p3cf) (c .p4cf) (c .ssb) v (c .hsb)
+
+-- "write HSB: the high four bits change, the low four stay", and so do the other bytes
+abbrev pub HsbWritten : ℕ → Config → Config → Type 0
+HsbWritten v c after = (high x y low : ℕ) → x < 16 → low < 16 → v ≡ high * 16 + x → c .hsb ≡ y * 16 + low
+    → after ≡ config (c .bsb) (c .sbv) (c .p1cf) (c .p3cf) (c .p4cf) (c .ssb) (c .eb) (high * 16 + low)
+
+-- "Full chip erase sets flash to FFh and BSB FFh, SBV FCh, SSB FFh; EEPROM and the other bytes stay."; no other command writes a byte
+abbrev pub Configures : Command → Config → Config → Type 0
+Configures (ProgramFlash a e) c after = after ≡ c
+Configures (ProgramEeprom a e) c after = after ≡ c
+Configures (Read r) c after = after ≡ c
+Configures (BlankCheck a e) c after = after ≡ c
+Configures (EraseBlock k) c after = after ≡ c
+Configures EraseChip c after = after ≡ config 0xFF 0xFC (c .p1cf) (c .p3cf) (c .p4cf) 0xFF (c .eb) (c .hsb)
+Configures (WriteByte i v) c after = ByteWritten i v c after
+Configures (WriteHsb v) c after = HsbWritten v c after
+Configures StartReset c after = after ≡ c
+Configures (StartAt a) c after = after ≡ c
+Configures ReadVersion c after = after ≡ c
+Configures (ReadByte i) c after = after ≡ c
+Configures ReadHsb c after = after ≡ c
+
 -- "state 3", and nothing is sent
 pub record Accepts (b : Board) (k : Command) (r : Result) : Type 0 where
   pub nothing-sent : r .sent ≡ []
   pub in-state-3 : r .session .state ≡ 3
   pub sets : Sets k b (r .session .status) (r .session .pending)
+  pub configures : Configures k (b .config) (r .config)
 
 abbrev pub AcceptedSets : Type 0
 AcceptedSets = (b : Board) (setup d : List ℕ) (n : ℕ) (k : Command) → ask b setup d n .accepted ≡ some k → Accepts b k (ask b setup d n)

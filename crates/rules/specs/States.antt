@@ -23,7 +23,10 @@ NoStart b = (k : StartKind) (a : FlashAddress) → b .session .pending ≡ Start
 
 -- r the answer to the setup
 pub record ByState (b : Board) (setup : List ℕ) (r : Result) : Type 0 where
+  -- P5: "The count is cleared by that second GETSTATUS", which is the one in state 4
   pub status-asked : requestOf setup ≡ GetStatus → r .outcome ≡ Done
+  pub count-cleared : requestOf setup ≡ GetStatus → b .session .state ≡ 4 → r .session .busy ≡ 0
+  pub count-kept : requestOf setup ≡ GetStatus → (b .session .state ≡ 4 → ⊥) → r .session .busy ≡ b .session .busy
   -- "GETSTATE: one byte, the state. Nothing moves."
   pub state-asked : requestOf setup ≡ GetState → r ≡ reply (b .config) Done (b .session .state ∷ []) (b .session)
   -- "CLRSTATUS in 10 ..: state 2, status 00h, nothing pending. Elsewhere they stall."; P5: the busy count stays

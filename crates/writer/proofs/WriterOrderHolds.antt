@@ -97,4 +97,6 @@ writer-order k d s room = record {
         rw (t, l) (ap (take (length bytes)) front ∙ take-at bytes (drop (length bytes) room) (length bytes) refl),
         rw (t, l) (ap (drop (length bytes)) front ∙ drop-at bytes (drop (length bytes) room) (length bytes) refl),
       );
+  written-told = λ n. (refl, refl);
+  unwritten-told = λ number. (refl, refl);
 }

@@ -11,7 +11,7 @@ use Rattle.command.specs.Ranges.{AddressRight}
 use Rattle.command.specs.declared.command.Command.{Command}
 use Rattle.command.specs.declared.command.Command.the-variants.{ProgramFlash, ProgramEeprom, Read, BlankCheck, EraseBlock, EraseChip, WriteByte, WriteHsb}
 use Rattle.command.specs.declared.command.Command.the-variants.{StartReset, StartAt, ReadVersion, ReadByte, ReadHsb}
-use Rattle.writer.specs.Writer.{Wrote, Unwritten, commandBytes, writeCommand, roomAfter}
+use Rattle.writer.specs.Writer.{Wrote, Unwritten, commandBytes, writeCommand, roomAfter, writtenNumber, writtenCount}
 
 -- "for program data not as long as the range or suffix not 16 bytes": not so
 pub record PartsRight (a e : ℕ) (d s : List ℕ) : Type 0 where
@@ -45,6 +45,9 @@ pub record Order (k : Command) (d s room : List ℕ) : Type 0 where
   pub nine : Writable k d s → length room < length (commandBytes k d s) → (writeCommand k d s room ≡ Unwritten 9) × (roomAfter k d s room ≡ room)
   pub written : Writable k d s → length (commandBytes k d s) ≤ length room → let n : ℕ = length (commandBytes k d s) in
       (writeCommand k d s room ≡ Wrote n) × (take n (roomAfter k d s room) ≡ commandBytes k d s) × (drop n (roomAfter k d s room) ≡ drop n room)
+  -- the number and the count of an answer: 0 and how many bytes, or the refusal's number and 0
+  pub written-told : (n : ℕ) → (writtenNumber (Wrote n) ≡ 0) × (writtenCount (Wrote n) ≡ n)
+  pub unwritten-told : (number : ℕ) → (writtenNumber (Unwritten number) ≡ number) × (writtenCount (Unwritten number) ≡ 0)
 
 abbrev pub WriterOrder : Type 0
 WriterOrder = (k : Command) (d s room : List ℕ) → Order k d s room
