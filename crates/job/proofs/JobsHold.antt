@@ -24,6 +24,7 @@ jobs = record {
   four-deep = refl;
   five-deep = refl;
   five-beside = refl;
+  five-deep-behind-a-note = refl;
   through-groups = refl;
   first-bad = refl;
   bad-inside = refl;

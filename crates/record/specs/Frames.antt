@@ -57,7 +57,7 @@ pub record Frames : Type 0 where
       → (writeRecord offset kind d room ≡ Unwritten 9) × (roomWritten offset kind d room ≡ room)
   pub enough-room : (offset kind : ℕ) (d room : List ℕ) → length d ≤ 255 → 11 + 2 * length d ≤ length room
       → writeRecord offset kind d room ≡ Wrote (11 + 2 * length d)
-  pub room-written : roomWritten 0x1234 0x05 someData (replicate 18 0) ≡ someRecord ++ (0 ∷ [])
+  pub room-written : roomWritten 0x1234 0x05 someData (replicate 18 0x7A) ≡ someRecord ++ (0x7A ∷ [])
   -- the number of each answer: 0 where nothing is refused, 1 for `X`, and else the refusal's
   pub taken-0 : (f : Fields) → readingNumber (Taken f) ≡ 0
   pub wrong-1 : readingNumber WrongChecksum ≡ 1

@@ -46,7 +46,7 @@ contracts-said b r a s f e p p₀ = record {
 }
 
 pub run-reported : RunReported
-run-reported b v vs = refl
+run-reported b v vs = (refl, refl)
 
 pub outcomes-numbered : OutcomesNumbered
 outcomes-numbered = record { done = refl; stall = refl; reset = λ a. (refl, refl); at-address = λ a. (refl, refl); refused = λ k. (refl, refl) }

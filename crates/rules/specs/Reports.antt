@@ -7,7 +7,7 @@ use lib.ListN.{length, getD}
 use Rattle.memory.specs.declared.address.FlashAddress.{FlashAddress}
 use Rattle.rules.specs.Session.{Session, session, Reset, AtAddress, Nothing}
 use Rattle.rules.specs.Result.{Board, Result, Answer, answer, next, replyAfter, outcomeNumber, outcomeValue, Done, Stall, Started, Refused}
-use Rattle.rules.specs.Step.{Event, step, reports, deliveredBoard}
+use Rattle.rules.specs.Step.{Event, step, after, Report, reports, deliveredBoard}
 use Rattle.rules.specs.Answered.{Answered, Replied, Stepped, Handled}
 
 pub record AnswerTold (r : Result) : Type 0 where
@@ -35,11 +35,11 @@ pub record ContractsSay (b : Board) (r : Result) (a : Answer) (s : Session) (f e
 abbrev pub ContractsSaid : Type 0
 ContractsSaid = (b : Board) (r : Result) (a : Answer) (s : Session) (f e p p₀ : List ℕ) → ContractsSay b r a s f e p p₀
 
--- demand 3 speaks of reports: each event of a run has one, with all that its answer tells
+-- demand 3 speaks of reports: each event of a run has one, with all that its answer tells; and the run goes on from the board that it leaves
 abbrev pub RunReported : Type 0
 RunReported = (b : Board) (v : Event) (vs : List Event) → let r : Result = step b v in
-    reports b (v ∷ vs)
-    ≡ record { outcome = r .outcome; sent = r .sent; session = r .session; config = r .config; pages = length (r .stored) } ∷ reports (next b r) vs
+    let told : Report = record { outcome = r .outcome; sent = r .sent; session = r .session; config = r .config; pages = length (r .stored) } in
+    (reports b (v ∷ vs) ≡ told ∷ reports (next b r) vs) × (after b (v ∷ vs) ≡ after (next b r) vs)
 
 -- no two outcomes have one number and one value
 pub record OutcomesNumbered : Type 0 where
