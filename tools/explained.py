@@ -17,6 +17,7 @@ class Explained:
         self.level, self.unread = None, False  # the SSB as last read, and whether a read of it failed
         self.closed = None  # a level that was read and is not 0: where, in a sentence, and whether the job itself had written it
         self.touched = False  # whether a change of the board was asked for
+        self.doubts = []  # questions that only a person can answer
 
     def tell(self, sentence):
         self.lines.append(f"       {sentence}")
@@ -24,6 +25,11 @@ class Explained:
     def wrong(self, line, number, sentence):
         self.sheet.wrong(line, number, sentence)
         self.tell(sentence)
+
+    def doubt(self, number, question):
+        """A question, told where it comes up, and once more where the last word is read."""
+        self.tell(question)
+        self.doubts.append(f"{self.sheet.thing.capitalize()} {number}: {question}")
 
     # ---- the level and the configuration bytes
 
@@ -100,6 +106,9 @@ class Explained:
             note = self.sheet.told_elsewhere if failed else self.sheet.wrong
             note("read", *self.ledger.unread_sentence(*left))
         self.against_tables()
+        self.lines += self.doubts[:1]
+        if len(self.doubts) > 1:
+            self.lines.append(f"The same is asked of {counted(len(self.doubts) - 1, self.sheet.thing)} more.")
         if self.lines[-1]:
             self.lines.append("")
         self.sheet.programmed = any(memory != SETTINGS for memory, _ in self.ledger.sent)

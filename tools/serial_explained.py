@@ -76,7 +76,7 @@ class ExplainedRecords(Explained):
             for sentence in self.ledger.program(number, "flash", asked.start, asked.given):
                 self.tell(sentence)
             if looks_decimal(asked.given) and not self.tables:
-                self.tell(decimal_question(asked.given))
+                self.doubt(number, decimal_question(asked.given))
         elif asked.kind == "erase":
             self.erased(number, asked)
         elif asked.kind == "display":

@@ -142,7 +142,7 @@ class ExplainedJob(Explained):
             self.ledger.misplaced.add(request.number)
             self.wrong("placed", request.number, sentence)
         if looks_decimal(body) and asked.memory not in self.tables:
-            self.tell(decimal_question(body))
+            self.doubt(request.number, decimal_question(body))
 
     def uploaded(self, request):
         if not self.last:
