@@ -1,4 +1,4 @@
--- The blank check's finding: the first byte of a range that is not FFh. Assumes nothing: these are definitions.
+-- The blank check's finding: the first byte of a range that is not FFh. Assumes nothing: these are definitions and a statement.
 use mathlib.Core.List.{List, [], _∷_}
 use mathlib.Core.Option.{Option, none, some}
 use mathlib.Core.Logic.{_↔_}
@@ -19,6 +19,12 @@ firstUsed a (x ∷ xs) = if eqb x 0xFF then firstUsed (suc a) xs else some a
 -- "the first such address" from a to e of a flash
 unfoldable pub usedIn : ℕ → ℕ → List ℕ → Option ℕ
 usedIn a e f = firstUsed a (part a e f)
+
+-- the same in numbers, of any range and flash: what lies past the flash's end is not looked at
+pub record FirstFound : Type 0 where
+  pub found : (a e x : ℕ) (f : List ℕ) → a ≤ x → x ≤ e → x < length f → ((i : ℕ) → a ≤ i → i < x → getD f i 0 ≡ 0xFF) → (getD f x 0 ≡ 0xFF → ⊥)
+      → usedIn a e f ≡ some x
+  pub none-found : (a e : ℕ) (f : List ℕ) → ((i : ℕ) → a ≤ i → i ≤ e → i < length f → getD f i 0 ≡ 0xFF) → usedIn a e f ≡ none
 
 -- the same blank bytes: FFh at the same addresses
 abbrev pub SameBlank : List ℕ → List ℕ → Type 0
@@ -43,3 +49,10 @@ usedOf (some x) = At (flashAddress x)
 abbrev pub usedStatus : Used → ℕ
 usedStatus (At a) = 0x05
 usedStatus Nowhere = 0x00
+
+-- the same in numbers, of every finding
+pub record FindingsTold : Type 0 where
+  pub found : (x : ℕ) → usedOf (some x) ≡ At (flashAddress x)
+  pub found-05h : (x : ℕ) → usedStatus (usedOf (some x)) ≡ 0x05
+  pub nothing : usedOf none ≡ Nowhere
+  pub nothing-00h : usedStatus (usedOf none) ≡ 0x00

@@ -22,6 +22,7 @@ past-last i x c h = rw (
 pub bytes : Bytes
 unfolding byteRead
 bytes = record {
+  named = λ b v p1 p3 p4 s e h. (refl, refl, refl, refl, refl, refl, refl, refl);
   delivered = refl;
   read-bsb = λ c. refl;
   read-sbv = λ c. refl;

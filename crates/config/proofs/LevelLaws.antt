@@ -17,10 +17,10 @@ pub other-sets-level-2 : (ssb : ℕ) → (ssb ≡ 0xFF → ⊥) → (ssb ≡ 0xF
 other-sets-level-2 ssb n m = simp (ne-eqb _ _ n, ne-eqb _ _ m)
 
 -- of a board with that byte
-pub ffh-is-level-0 : (c : Config) → c .ssb ≡ 0xFF → level c ≡ L0
+ffh-is-level-0 : (c : Config) → c .ssb ≡ 0xFF → level c ≡ L0
 ffh-is-level-0 c e = ffh-sets-level-0 (c .ssb) e
 
-pub feh-is-level-1 : (c : Config) → c .ssb ≡ 0xFE → level c ≡ L1
+feh-is-level-1 : (c : Config) → c .ssb ≡ 0xFE → level c ≡ L1
 feh-is-level-1 c e = feh-sets-level-1 (c .ssb) e
 
 pub other-is-level-2 : (c : Config) → (c .ssb ≡ 0xFF → ⊥) → (c .ssb ≡ 0xFE → ⊥) → level c ≡ L2

@@ -18,6 +18,8 @@ abbrev pub Writes : ℕ → (ℕ → ℕ → ℕ → ℕ → ℕ → ℕ → ℕ
 Writes i after = (x b v p1 p3 p4 s e h : ℕ) → withByte i x (config b v p1 p3 p4 s e h) ≡ after x b v p1 p3 p4 s e h
 
 pub record Bytes : Type 0 where
+  pub named : (b v p1 p3 p4 s e h : ℕ) → let c = config b v p1 p3 p4 s e h in
+      (c .bsb ≡ b) × (c .sbv ≡ v) × (c .p1cf ≡ p1) × (c .p3cf ≡ p3) × (c .p4cf ≡ p4) × (c .ssb ≡ s) × (c .eb ≡ e) × (c .hsb ≡ h)
   -- "BSB FFh, SBV FCh, P1_CF FEh, P3_CF FFh, P4_CF FFh, SSB FFh, EB FFh (index 00h to 06h), and HSB BBh"
   pub delivered : deliveredConfig ≡ config 0xFF 0xFC 0xFE 0xFF 0xFF 0xFF 0xFF 0xBB
   -- "read a byte", "index 00h-06h, 30h, 31h, 60h, 61h": "manufacturer 58h, family D7h, product F7h, revision DFh"

@@ -5,9 +5,9 @@ use mathlib.Core.Bool.{true, false}
 use mathlib.Core.List.{List, [], _++_}
 use Prim.Native.Nat.{ℕ, zero, suc, _+_}
 use native.Mathlib.Omega.{arith}
-use lib.ListN.{length, length-append}
+use lib.ListN.{length-append}
 use Rattle.job.specs.Field.{tagAt, lengthAt, valueAt, endAt, requestTag, groupTag, beyond}
-use Rattle.job.specs.Requests.{held, requestsIn}
+use Rattle.job.specs.Requests.{held, requestsIn, RequestsHeld}
 use Rattle.job.specs.Read.{Holds, Counts}
 use Rattle.job.proofs.FieldLaws.{by-request, by-group, by-other, end-beyond, Inside}
 
@@ -53,3 +53,13 @@ module _ (file : List ℕ) (at end size : ℕ) (i : Inside file at end size) (q 
       let none = count-beyond file end end (end-beyond file end end (omega arith)) in
       let c = count-field 0 (rw last none) n m in
       omega (arith, c)
+
+pub requests-held : RequestsHeld
+requests-held = record {
+  request = λ inside file at q. rw q;
+  group = λ inside file at q. rw q;
+  note = λ inside file at q. rw q;
+  counted = λ file. refl;
+  setup = λ file start size. refl;
+  rest = λ file start size. refl;
+}

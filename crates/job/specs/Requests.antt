@@ -1,6 +1,7 @@
 -- The requests of a job. Assumes nothing: these are definitions.
 use mathlib.Core.List.{List, [], _∷_, _++_}
-use Prim.Native.Nat.{ℕ, zero, suc, _≤_}
+use mathlib.Core.Path.{_≡_}
+use Prim.Native.Nat.{ℕ, zero, suc, _+_, _≤_}
 use lib.Dec.{ltb}
 use lib.ListN.{length, take, drop}
 use Rattle.words.specs.Words.{if_then_else_}
@@ -46,6 +47,15 @@ setupOf file s = take setupSize (spanBytes file s)
 
 abbrev pub dataOf : List ℕ → Span → List ℕ
 dataOf file s = drop setupSize (spanBytes file s)
+
+-- the same by the tag's number, and of every file: a request's value stands behind its tag and its length, which are three bytes
+pub record RequestsHeld : Type 0 where
+  pub request : (inside : List Span) (file : List ℕ) (at : ℕ) → tagAt file at ≡ 0x01 → held inside file at ≡ span (at + 3) (lengthAt file at) ∷ []
+  pub group : (inside : List Span) (file : List ℕ) (at : ℕ) → tagAt file at ≡ 0x02 → held inside file at ≡ inside
+  pub note : (inside : List Span) (file : List ℕ) (at : ℕ) → tagAt file at ≡ 0x03 → held inside file at ≡ []
+  pub counted : (file : List ℕ) → requestCount file ≡ length (requestsOf file)
+  pub setup : (file : List ℕ) (start size : ℕ) → setupOf file (span start size) ≡ take 8 (take size (drop start file))
+  pub rest : (file : List ℕ) (start size : ℕ) → dataOf file (span start size) ≡ drop 8 (take size (drop start file))
 
 -- "14 a request under 8 bytes": each of these has its setup
 abbrev pub HaveSetups : List Span → Type 0

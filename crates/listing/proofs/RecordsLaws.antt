@@ -42,10 +42,10 @@ module _ (file : List ℕ) (at : ℕ) (h : at < length file) where
   unfolding recordsFrom recordsIn
   from-some = one-more file at ∙ simp (lt-leb _ _ h)
 
-  pub from-record : isRecord file at (textEnd file at) ≡ true → recordsFrom file at ≡ span at (textEnd file at) ∷ recordsFrom file (suc (lineEnd file at))
+  from-record : isRecord file at (textEnd file at) ≡ true → recordsFrom file at ≡ span at (textEnd file at) ∷ recordsFrom file (suc (lineEnd file at))
   from-record e = from-some ∙ rw e
 
-  pub from-other : isRecord file at (textEnd file at) ≡ false → recordsFrom file at ≡ recordsFrom file (suc (lineEnd file at))
+  from-other : isRecord file at (textEnd file at) ≡ false → recordsFrom file at ≡ recordsFrom file (suc (lineEnd file at))
   from-other e = from-some ∙ rw e
 
 -- ---- from the end of a line's characters on the same follows as from behind the line
@@ -59,7 +59,7 @@ blank-from file p e l t h =
     (λ (s : length file ≤ p). from-none file p s ∙ sym (from-none file (suc e) (omega arith)))
     (lt-or-ge p (length file))
 
-pub from-end : (file : List ℕ) (at : ℕ) → recordsFrom file (textEnd file at) ≡ recordsFrom file (suc (lineEnd file at))
+from-end : (file : List ℕ) (at : ℕ) → recordsFrom file (textEnd file at) ≡ recordsFrom file (suc (lineEnd file at))
 from-end file at =
     let e = lineEnd file at in
     ⊎-elim

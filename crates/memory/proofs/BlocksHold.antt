@@ -12,7 +12,8 @@ use Rattle.memory.specs.Memory.{flashSize, blankFlash}
 use Rattle.memory.specs.Pages.{Block, Low, Middle, High, storeAll, pagesMet, blockStart, blockEnd, blockFF, blockStores}
 use Rattle.memory.specs.Erase.{blockErase, chipErase}
 use Rattle.memory.specs.Blocks.{Erased, Erases, BlocksErased}
-use Rattle.memory.proofs.PagesLaws.{blockStores-programmed, length-blockStores, storeAll-chipStores, length-chipStores, length-blankFlash}
+use Rattle.memory.proofs.PagesLaws.{blockStores-programmed, length-blockStores, rising-blockStores}
+use Rattle.memory.proofs.PagesLaws.{storeAll-chipStores, length-chipStores, rising-chipStores, length-blankFlash}
 
 module _ (m : List ℕ) (size : length m ≡ flashSize) where
   block : (k : Block) → blockStart k ≤ blockEnd k → Erased (blockStart k) (blockEnd k) (pagesMet (blockStart k) (blockEnd k)) (blockErase k m) m
@@ -30,6 +31,7 @@ module _ (m : List ℕ) (size : length m ≡ flashSize) where
             ∙ getD-replicate (count a e) (i - a) 0xFF 0 (omega arith);
         others-stay = λ i h. p .others-stay i (outside a e (length (blockFF k)) i (omega arith) h);
         page-count = length-blockStores k m;
+        rising = rising-blockStores k m size;
       })
     where
       outside : (a e n i : ℕ) → a + n ≡ e + 1 → (i < a) ⊎ (e < i) → (i < a) ⊎ (a + n ≤ i)
@@ -48,6 +50,7 @@ module _ (m : List ℕ) (size : length m ≡ flashSize) where
         chip-size = rw right (ap length s ∙ length-blankFlash);
         chip-blank = λ i h. rw right (ap (λ x. getD x i 0) s ∙ getD-replicate flashSize i 0xFF 0 (omega arith));
         chip-pages = rw right length-chipStores;
+        chip-rising = rw right rising-chipStores;
       }
 
 pub blocks-erased : BlocksErased

@@ -13,7 +13,8 @@ use lib.Seq.{length-take-le, getD-take, getD-drop}
 use borrow.Author.Tests.{le-leb, lt-ltb, leb-true, ltb-true}
 use Rattle.words.specs.Words.{if_then_else_, count, part, overlay, Programmed}
 use Rattle.words.proofs.WordsLaws.{overlay-programmed}
-use Rattle.memory.specs.Read.{copyable, copied, bufferAfter, Readable, ReadOrNot, AnySizeRead}
+use Rattle.memory.specs.Memory.{BoardSizes}
+use Rattle.memory.specs.Read.{copyable, copied, bufferAfter, Readable, ReadOrNot, AnySizeRead, OwnSelected, OwnRead}
 
 module _ (a e : ℕ) (m buffer : List ℕ) where
   copyable-readable : copyable a e m buffer ≡ true → Readable a e m buffer
@@ -62,3 +63,24 @@ any-size-read a e m buffer = by (copyable a e m buffer) refl
           rest-stays = λ r. absurd (not-so r);
           not-read = λ _. (refl, refl);
         }
+
+pub own-selected : OwnSelected
+own-selected = record {
+  of-flash = λ a e f m. refl;
+  of-eeprom = λ a e f m. refl;
+  flash-ends = λ a e. (refl, refl);
+  eeprom-ends = λ a e. (refl, refl);
+}
+
+pub own-read : OwnRead
+own-read = record { of-flash = λ a e f m buffer. (refl, refl); of-eeprom = λ a e f m buffer. (refl, refl) }
+
+pub board-sizes : BoardSizes
+board-sizes = record {
+  flash-bytes = refl;
+  flash-last = refl;
+  flash-in-pages = (refl, refl);
+  eeprom-bytes = refl;
+  flash-range = λ a e. (refl, refl);
+  eeprom-range = λ a e. (refl, refl);
+}

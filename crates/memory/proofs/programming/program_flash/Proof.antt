@@ -10,9 +10,9 @@ use borrow.Author.Needs.{needs}
 use Rattle.words.specs.Words.{overlay}
 use Rattle.memory.specs.Memory.{FlashAddress, flashSize, pageSize, mostFlash}
 use Rattle.memory.specs.Pages.{storeAll, pagesMet}
-use Rattle.memory.specs.Program.{programmable, flashStores}
+use Rattle.memory.specs.Program.{programmable, flashStores, Programmable}
 use Rattle.memory.proofs.PagesLaws.{length-programStores}
-use Rattle.memory.proofs.ProgramLaws.{Fit, told-not, told-fit, memoryAfter-fit, flashStores-not, flashStores-fit, storeAll-flashStores}
+use Rattle.memory.proofs.ProgramLaws.{told-not, told-fit, memoryAfter-fit, flashStores-not, flashStores-fit, storeAll-flashStores}
 use Rattle.memory.proofs.programming.program_flash.Statement.{statement}
 use Rattle.memory.proofs.programming.program_flash.Tie as tie
 
@@ -24,7 +24,7 @@ module _ (a e : FlashAddress) (d m : List ℕ) (r : Bool) (told : r ≡ programm
       (rw none, rw none)
 
   module _ (h : not r ≡ false) where
-    fit : Fit flashSize (a .0) (e .0) d m
+    fit : Programmable flashSize (a .0) (e .0) d m
     fit = told-fit flashSize (a .0) (e .0) d m r told h
 
     pages-fit : ((0 < length d) × (a .0 + length d ≤ length m)) × ((length m % pageSize ≡ 0) × (length m ≤ mostFlash))

@@ -1,0 +1,20 @@
+-- Numbers among others, numbers of two bytes, and how many bytes a range has, as specs/Words.antt says.
+-- Assumes nothing.
+use mathlib.Core.Path.{refl}
+use native.Mathlib.Omega.{arith}
+use borrow.Author.Tests.{eq-eqb, ne-eqb}
+use Rattle.words.specs.Words.{AmongThese, WordsRead}
+
+pub words-read : WordsRead
+words-read = record {
+  high-byte-first = λ x y d. refl;
+  high-further = λ x i d. refl;
+  low-byte-first = λ x y d. refl;
+  low-further = λ x i d. refl;
+  one-byte = λ a. omega arith;
+  one-more = λ a e h. omega arith;
+  backward = λ a e h. omega arith;
+}
+
+pub among-these : AmongThese
+among-these = record { of-none = λ n. refl; first = λ n ms. rw (eq-eqb n n refl); others = λ n m ms h. rw (ne-eqb n m h) }
