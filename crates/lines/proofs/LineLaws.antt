@@ -1,36 +1,24 @@
--- The lines of the bench program: how long they are, and the pieces that they are put together from.
+-- The lines of the bench programs: how long they are.
 -- Assumes nothing.
-use mathlib.Core.Path.{_≡_, refl}
-use mathlib.Core.List.{List, [], _∷_, _++_, append-assoc}
+use mathlib.Core.Path.{_≡_}
+use mathlib.Core.List.{List, [], _∷_}
 use Prim.Native.Nat.{ℕ, _+_, _≤_}
 use native.Mathlib.Omega.{arith}
 use lib.ListN.{length, length-append}
-use Rattle.lines.specs.Text.{mostDigits, ascii, decimal, hexByte, hexBytes}
-use Rattle.lines.specs.Line.{Word, Done, Stall, Start, Answered, Reset, Refused, wordText, replyText, space}
+use Rattle.lines.specs.Text.{mostDigits}
+use Rattle.lines.specs.Line.{Word, Done, Stall, Start, Answered, Reset, Refused, wordText, replyText}
 use Rattle.lines.specs.Line.{requestLine, jobLine, refusedLine, recordsLine, headLine}
 use Rattle.lines.specs.Line.{mostLine, mostJobLine, mostRefusedLine, mostRecordsLine, mostHead}
 use Rattle.lines.specs.Room.{requestSize, jobSize, refusedSize, recordsSize, headSize}
 use Rattle.lines.proofs.TextLaws.{length-decimal, length-hexBytes}
 
-module _ (n : ℕ) (w : Word) (st s p : ℕ) (r : List ℕ) where
-  -- each piece with the space after it
-  pub requestLine-pieces :
-      decimal n ++ space ++ (wordText w ++ space) ++ (decimal st ++ space) ++ hexByte s ++ space ++ (decimal p ++ space) ++ replyText r
-      ++ ascii "\n" ≡ requestLine n w st s p r
-  unfolding requestLine
-  requestLine-pieces = simp append-assoc
-
-  pub length-requestLine : length (requestLine n w st s p r) ≡ requestSize n w st p r
-  unfolding requestLine
-  length-requestLine = simp length-append (omega arith)
+pub length-requestLine : (n : ℕ) (w : Word) (st s p : ℕ) (r : List ℕ) → length (requestLine n w st s p r) ≡ requestSize n w st p r
+unfolding requestLine
+length-requestLine n w st s p r = simp length-append (omega arith)
 
 pub length-jobLine : (n : ℕ) → length (jobLine n) ≡ jobSize n
 unfolding jobLine
 length-jobLine n = simp length-append (omega arith)
-
-pub refusedLine-pieces : (k p : ℕ) → ascii "refused " ++ (decimal k ++ space) ++ ascii "at " ++ (decimal p ++ ascii "\n") ≡ refusedLine k p
-unfolding refusedLine
-refusedLine-pieces k p = simp append-assoc
 
 pub length-refusedLine : (k p : ℕ) → length (refusedLine k p) ≡ refusedSize k p
 unfolding refusedLine
@@ -41,30 +29,17 @@ pub length-recordsLine : (n : ℕ) → length (recordsLine n) ≡ recordsSize n
 unfolding recordsLine
 length-recordsLine n = simp length-append (omega arith)
 
-pub headLine-pieces : (n : ℕ) (w : Word) (p : ℕ) → (decimal n ++ space) ++ (wordText w ++ space) ++ (decimal p ++ space) ≡ headLine n w p
-unfolding headLine
-headLine-pieces n w p = simp append-assoc
-
 pub length-headLine : (n : ℕ) (w : Word) (p : ℕ) → length (headLine n w p) ≡ headSize n w p
 unfolding headLine
 length-headLine n w p = simp length-append (omega arith)
 
-pub length-wordText : (w : Word) → length (wordText w) ≤ 3 + mostDigits
+length-wordText : (w : Word) → length (wordText w) ≤ 3 + mostDigits
 length-wordText Done = omega arith
 length-wordText Stall = omega arith
 length-wordText Start = omega arith
 length-wordText Answered = omega arith
 length-wordText Reset = omega arith
 length-wordText (Refused k) = omega (arith, length-decimal k)
-
--- a reply of no bytes, and any other
-pub replyText-none : (r : List ℕ) → length r ≡ 0 → replyText r ≡ ascii "-"
-replyText-none [] h = refl
-replyText-none (b ∷ bs) h = absurd (omega arith)
-
-pub replyText-some : (r : List ℕ) → (length r ≡ 0 → ⊥) → replyText r ≡ hexBytes r
-replyText-some [] h = absurd (h refl)
-replyText-some (b ∷ bs) h = refl
 
 replyText-le : (r : List ℕ) → length r ≤ 1024 → length (replyText r) ≤ 2048
 replyText-le [] h = omega arith

@@ -1,4 +1,4 @@
--- The sentences of specs/Printed.antt hold; but for the room each is computed.
+-- The sentences of specs/Printed.antt and of specs/Line.antt hold; but for the room each is computed.
 -- Assumes nothing.
 use mathlib.Core.Path.{refl}
 use Prim.Native.Nat.{_+_}
@@ -6,9 +6,21 @@ use lib.ListN.{length}
 use borrow.Author.Tests.{le-leb, lt-leb}
 use Rattle.words.specs.Words.{laid}
 use Rattle.lines.specs.Text.{decimal}
-use Rattle.lines.specs.Line.{requestLine, jobLine, refusedLine, recordsLine, headLine}
+use Rattle.lines.specs.Line.{requestLine, jobLine, refusedLine, recordsLine, headLine, LinesNamed}
 use Rattle.lines.specs.Room.{put}
 use Rattle.lines.specs.Printed.{Printed}
+
+pub lines-named : LinesNamed
+unfolding requestLine jobLine refusedLine recordsLine headLine
+lines-named = record {
+  request = λ number word state status pages reply. refl;
+  reply = λ b bs. refl;
+  no-reply = refl;
+  job = λ n. refl;
+  refused = λ k p. refl;
+  records = λ n. refl;
+  head = λ number word pages. refl;
+}
 
 pub printed : Printed
 unfolding decimal requestLine jobLine refusedLine recordsLine headLine put laid

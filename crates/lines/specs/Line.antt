@@ -1,4 +1,5 @@
--- The lines of the bench programs. Assumes nothing: these are definitions.
+-- The lines of the bench programs. Assumes nothing: these are definitions and a statement.
+use mathlib.Core.Path.{_≡_}
 use mathlib.Core.List.{List, [], _∷_, _++_}
 use Prim.Native.Nat.{ℕ}
 use Rattle.lines.specs.Text.{ascii, decimal, hexByte, hexBytes}
@@ -56,6 +57,19 @@ recordsLine n = countLine (ascii "records ") n
 
 unfoldable pub headLine : ℕ → Word → ℕ → List ℕ
 headLine number word pages = decimal number ++ space ++ wordText word ++ space ++ decimal pages ++ space
+
+-- each line in its parts, of every number
+pub record LinesNamed : Type 0 where
+  pub request : (number : ℕ) (word : Word) (state status pages : ℕ) (reply : List ℕ) → requestLine number word state status pages reply
+      ≡ decimal number ++ ascii " " ++ wordText word ++ ascii " " ++ decimal state ++ ascii " " ++ hexByte status ++ ascii " "
+      ++ decimal pages ++ ascii " " ++ replyText reply ++ ascii "\n"
+  pub reply : (b : ℕ) (bs : List ℕ) → replyText (b ∷ bs) ≡ hexBytes (b ∷ bs)
+  pub no-reply : replyText [] ≡ ascii "-"
+  pub job : (n : ℕ) → jobLine n ≡ ascii "job " ++ decimal n ++ ascii "\n"
+  pub refused : (k p : ℕ) → refusedLine k p ≡ ascii "refused " ++ decimal k ++ ascii " at " ++ decimal p ++ ascii "\n"
+  pub records : (n : ℕ) → recordsLine n ≡ ascii "records " ++ decimal n ++ ascii "\n"
+  pub head : (number : ℕ) (word : Word) (pages : ℕ) → headLine number word pages
+      ≡ decimal number ++ ascii " " ++ wordText word ++ ascii " " ++ decimal pages ++ ascii " "
 
 -- neither is longer
 abbrev pub mostRecordsLine : ℕ

@@ -28,6 +28,7 @@ pub record PutNumbered : Type 0 where
   pub number-written : (at : ℕ) (text room : List ℕ) → at + length text ≤ length room → putNumber (put at text room) ≡ 0
   pub end-written : (at : ℕ) (text room : List ℕ) → at + length text ≤ length room → putEnd (put at text room) ≡ at + length text
   pub number-refused : (at : ℕ) (text room : List ℕ) → length room < at + length text → putNumber (put at text room) ≡ 9
+  pub end-refused : (at : ℕ) (text room : List ℕ) → length room < at + length text → putEnd (put at text room) ≡ 0
   pub room-refused : (at : ℕ) (text room : List ℕ) → length room < at + length text → laid at text room ≡ room
 
 -- how many bytes a line has, as the code adds them up: those whose number never varies, and then these
