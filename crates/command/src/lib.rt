@@ -1,4 +1,5 @@
-// What DNLOAD data says: the commands of document 01, their form, their addresses, the layout of a transfer, and the loader's reader.
+// What DNLOAD data says: the commands of document 01, which addresses they may not have, and the layout of a transfer. The definitions of
+// their form and of the loader's reader stand here too, with the types of what these answer; their code is crates/reader.
 //
 // No public function has a `requires`: each says what it answers for every input.
 mod check;
@@ -12,16 +13,11 @@ pub use check::bad_range;
 pub use check::past_flash;
 pub use command::Command;
 pub use form::Form;
-pub use form::form_of;
 pub use reader::Parts;
 pub use reader::Reading;
-pub use reader::parts_of;
-pub use reader::read_command;
-pub use reader::reading_status;
 pub use transfer::Transfer;
 pub use transfer::range_count;
 pub use transfer::transfer_of;
-pub use transfer::wrong_length;
 
 // "32 bytes of command (26 not looked at)", "16 suffix bytes", and the most bytes to program or read.
 pub const COMMAND_SIZE: usize = 32;

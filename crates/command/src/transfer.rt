@@ -3,9 +3,7 @@ ghost use mathlib.Core.Path.{_≡_};
 ghost use Prim.Native.Nat.{_≤_};
 ghost use Rattle.words.specs.Words.{count};
 ghost use Rattle.memory.specs.Memory.{rangeCount};
-ghost use Rattle.command.specs.Transfer.{padding, transferOf, wrongLength};
-use crate::COMMAND_SIZE;
-use crate::SUFFIX_SIZE;
+ghost use Rattle.command.specs.Transfer.{padding, transferOf};
 use crate::command::Command;
 use memory::Range;
 
@@ -54,18 +52,5 @@ pub fn transfer_of(command: Command) -> Transfer
         Command::ProgramFlash(start, end) => laid_out(start.0, end.0),
         Command::ProgramEeprom(start, end) => laid_out(start.0, end.0),
         _ => Transfer::NoTransfer,
-    }
-}
-
-// Whether data of n bytes has not the whole length that a program transfer has to have.
-pub fn wrong_length(command: Command, n: usize) -> bool
-    ensures { λ r. ⌜ r ≡ wrongLength command n ⌝ }
-{
-    match transfer_of(command) {
-        Transfer::Of(pad, bytes) => {
-            let whole = COMMAND_SIZE + (pad as usize) + (bytes as usize) + SUFFIX_SIZE;
-            n != whole
-        }
-        Transfer::NoTransfer => false,
     }
 }

@@ -1,21 +1,17 @@
 // DNLOAD: a command, or the end of a download.
 ghost use mathlib.Core.Path.{_≡_};
-ghost use Rattle.command.specs.Form.{form};
 ghost use mathlib.Core.List.{[]};
 ghost use Rattle.rules.specs.Session.{session as sessionOf};
 ghost use Rattle.rules.specs.Result.{board as boardOf, reply as replyOf, answer};
-ghost use Rattle.rules.specs.Commands.{obey as obeyOf, obeyForm};
-ghost use Rattle.rules.specs.Requests.{endPlain, endDownload, dnload as dnloadOf};
-ghost use Rattle.downloads.specs.Download.{downloaded};
-ghost use Rattle.rules.specs.Answered.{bare, Answered, Sizes, Formed};
-use crate::perform::perform;
-use command::BAD_ADDRESS_STATUS;
-use command::Command;
-use command::Form;
+ghost use Rattle.rules.specs.Requests.{endPlain, endDownload};
+ghost use Rattle.rules.specs.Answered.{bare, Answered};
+ghost use Rattle.fates.specs.Fate.{sizedFate};
+ghost use Rattle.downloads.specs.Download.{resultOf, downloaded};
 use config::Config;
+use fates::Obeyed;
+use fates::fate_of;
 use memory::EEPROM_SIZE;
 use memory::FLASH_SIZE;
-use requests::level_status;
 use requests::quiet;
 use requests::stall;
 use rules::Answer;
@@ -33,35 +29,7 @@ fn failed(config: Config, status: u8, busy: u16) -> Answer
     quiet(config, Outcome::Done, 10, status, Pending::Nothing, busy)
 }
 
-// A command whose form is right: the level, the address, and at last the whole length; then it is done.
-fn obey(
-    session: Session,
-    config: Config,
-    command: Command,
-    sent: &[u8],
-    flash: &mut [u8],
-    eeprom: &mut [u8],
-) -> Answer
-    requires { ⌜ Formed command (now sent) (now flash) (now eeprom) ⌝ }
-    ensures { λ r. let b = boardOf session config (now (flash .entry)) (now (eeprom .entry)) in
-        ⌜ Answered b (obeyOf b command (now (sent .entry))) r (now (flash .exit)) (now (eeprom .exit)) ⌝ }
-{
-    let level = config::level_of(config);
-    let status = level_status(command, level);
-    let wrong = command::bad_address(command);
-    if status != 0x00 {
-        return failed(config, status, session.busy);
-    }
-    if wrong {
-        return failed(config, BAD_ADDRESS_STATUS, session.busy);
-    }
-    if command::wrong_length(command, sent.len()) {
-        return stall(session, config);
-    }
-    perform(config, command, sent, flash, eeprom)
-}
-
-// Data of 1 to 1,103 bytes, in state 2 or 5.
+// Data of 1 to 1,103 bytes, in state 2 or 5: what becomes of the command is the answer.
 fn command_sent(
     session: Session,
     config: Config,
@@ -69,13 +37,13 @@ fn command_sent(
     flash: &mut [u8],
     eeprom: &mut [u8],
 ) -> Answer
-    requires { ⌜ Sizes (now flash) (now eeprom) ⌝ }
     ensures { λ r. let b = boardOf session config (now (flash .entry)) (now (eeprom .entry)) in
-        ⌜ Answered b (obeyForm b (form (now (sent .entry))) (now (sent .entry))) r (now (flash .exit)) (now (eeprom .exit)) ⌝ }
+        ⌜ Answered b (resultOf b (sizedFate b (now (sent .entry)))) r (now (flash .exit)) (now (eeprom .exit)) ⌝ }
 {
-    match command::form_of(sent) {
-        Form::Is(command) => obey(session, config, command, sent, flash, eeprom),
-        Form::Unlisted => stall(session, config),
+    match fate_of(config, sent, flash, eeprom) {
+        Obeyed::Taken(answer) => answer,
+        Obeyed::Sets(status) => failed(config, status, session.busy),
+        Obeyed::Stops => stall(session, config),
     }
 }
 
@@ -121,33 +89,8 @@ fn end_download(session: Session, config: Config) -> Answer
     }
 }
 
-// DNLOAD with wLength n, for memories of their sizes.
-fn dnload_sized(
-    session: Session,
-    config: Config,
-    n: u16,
-    sent: &[u8],
-    flash: &mut [u8],
-    eeprom: &mut [u8],
-) -> Answer
-    requires { ⌜ Sizes (now flash) (now eeprom) ⌝ }
-    ensures { λ r. let b = boardOf session config (now (flash .entry)) (now (eeprom .entry)) in
-        ⌜ Answered b (dnloadOf b n (now (sent .entry))) r (now (flash .exit)) (now (eeprom .exit)) ⌝ }
-{
-    if MOST_DATA < n {
-        return stall(session, config);
-    }
-    if n == 0 {
-        return end_download(session, config);
-    }
-    let state = session.state;
-    match state {
-        2 | 5 => command_sent(session, config, sent, flash, eeprom),
-        _ => stall(session, config),
-    }
-}
-
-// DNLOAD with wLength n. Memories that have not their sizes are not touched: it stalls.
+// DNLOAD with wLength n. Memories that have not their sizes are not touched: it stalls. A command's memories are held to their sizes
+// where the command is done.
 pub fn dnload(
     session: Session,
     config: Config,
@@ -159,11 +102,21 @@ pub fn dnload(
     ensures { λ r. let b = boardOf session config (now (flash .entry)) (now (eeprom .entry)) in
         ⌜ Answered b (downloaded b n (now (sent .entry))) r (now (flash .exit)) (now (eeprom .exit)) ⌝ }
 {
-    if flash.len() != FLASH_SIZE {
+    if MOST_DATA < n {
         return stall(session, config);
     }
-    if eeprom.len() != EEPROM_SIZE {
-        return stall(session, config);
+    if n == 0 {
+        if flash.len() != FLASH_SIZE {
+            return stall(session, config);
+        }
+        if eeprom.len() != EEPROM_SIZE {
+            return stall(session, config);
+        }
+        return end_download(session, config);
     }
-    dnload_sized(session, config, n, sent, flash, eeprom)
+    let state = session.state;
+    match state {
+        2 | 5 => command_sent(session, config, sent, flash, eeprom),
+        _ => stall(session, config),
+    }
 }

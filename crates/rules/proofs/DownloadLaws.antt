@@ -1,57 +1,20 @@
 -- What the proofs of DNLOAD share: each way through `obey`, `endDownload` and `dnload`.
 -- Assumes nothing.
-use mathlib.Core.Path.{_≡_, refl, sym, ap, _∙_}
+use mathlib.Core.Path.{_≡_, refl}
 use mathlib.Core.Bool.{Bool, true, false, _&&_, and-false}
 use mathlib.Core.List.{List, []}
-use mathlib.Core.Option.{Option, none, some}
 use Prim.Native.Nat.{ℕ, _≤_, _<_}
-use native.Mathlib.Omega.{arith}
 use lib.Dec.{eqb}
 use borrow.Author.Tests.{eq-eqb, ne-eqb, lt-ltb, le-ltb}
 use Rattle.words.specs.Words.{if_then_else_, among}
-use Rattle.config.specs.Level.{level}
 use Rattle.memory.specs.declared.address.FlashAddress.{FlashAddress}
 use Rattle.config.specs.declared.config.Config.{Config}
-use Rattle.command.specs.Form.{form, formOf}
-use Rattle.command.specs.Address.{badAddress}
-use Rattle.command.specs.Transfer.{badLength}
-use Rattle.command.specs.declared.form.Form.{Form}
-use Rattle.command.specs.declared.form.Form.the-variants.{Is, Unlisted}
-use Rattle.command.specs.declared.command.Command.{Command}
-use Rattle.command.specs.declared.command.Command.the-variants.{ProgramFlash, ProgramEeprom, Read, BlankCheck, EraseBlock, EraseChip, WriteByte, WriteHsb}
-use Rattle.command.specs.declared.command.Command.the-variants.{StartReset, StartAt, ReadVersion, ReadByte, ReadHsb}
-use Rattle.rules.specs.Session.{Session, session, idle, Nothing, Start, StartKind}
-use Rattle.rules.specs.Levels.{levelStatus}
+use Rattle.command.specs.Form.{form}
+use Rattle.rules.specs.Session.{Session, session, Nothing, Start, StartKind}
 use Rattle.rules.specs.Result.{board, reply, Answer, answer, Outcome, Done, Stall, Started}
-use Rattle.rules.specs.Commands.{stall, perform, accept, obey, obeyForm}
+use Rattle.rules.specs.Commands.{stall, obeyForm}
 use Rattle.rules.specs.Requests.{mostData, startPending, startOf, endPlain, startStates, endDownload, commandStates, dnload}
 use Rattle.rules.specs.Answered.{bare, Answered}
-
--- which form an answer stands for
-pub is-form : (o : Option Command) (f : Form) (k : Command) → f ≡ formOf o → f ≡ Is k → o ≡ some k
-is-form none f k e q = absurd (let z : _≡_ {A = ℕ} 0 1 = cc in omega arith)
-is-form (some j) f k e q = cc
-
-pub no-form : (o : Option Command) (f : Form) → f ≡ formOf o → f ≡ Unlisted → o ≡ none
-no-form none f e q = refl
-no-form (some j) f e q = absurd (let z : _≡_ {A = ℕ} 0 1 = cc in omega arith)
-
--- what a command does, whatever the session
-perform-session : (s t : Session) (c : Config) (f e d : List ℕ) (k : Command) → perform (board s c f e) k d ≡ perform (board t c f e) k d
-unfolding perform
-perform-session s t c f e d (ProgramFlash x y) = refl
-perform-session s t c f e d (ProgramEeprom x y) = refl
-perform-session s t c f e d (Read r) = refl
-perform-session s t c f e d (BlankCheck x y) = refl
-perform-session s t c f e d (EraseBlock k) = refl
-perform-session s t c f e d EraseChip = refl
-perform-session s t c f e d (WriteByte i v) = refl
-perform-session s t c f e d (WriteHsb v) = refl
-perform-session s t c f e d StartReset = refl
-perform-session s t c f e d (StartAt a) = refl
-perform-session s t c f e d ReadVersion = refl
-perform-session s t c f e d (ReadByte i) = refl
-perform-session s t c f e d ReadHsb = refl
 
 module _ (s : Session) (c : Config) (f e : List ℕ) where
   -- a stall leaves the memories
@@ -66,34 +29,6 @@ module _ (s : Session) (c : Config) (f e : List ℕ) where
   either true q o o′ t u v h = record { answered = h; flash = refl; eeprom = refl }
   either false true o o′ t u v h = record { answered = h; flash = refl; eeprom = refl }
   either false false o o′ t u v h = record { answered = h; flash = refl; eeprom = refl }
-
-  module _ (k : Command) (d : List ℕ) (status : ℕ) (told : status ≡ levelStatus k (level c)) where
-    pub forbidden : {a : Answer} → (status ≡ 0 → ⊥) → a ≡ answer (reply c Done [] (session 10 status Nothing (s .busy)))
-        → Answered (board s c f e) (obey (board s c f e) k d) a f e
-    unfolding obey
-    forbidden h q =
-        let t : eqb (levelStatus k (level c)) 0 ≡ false = ne-eqb _ 0 (λ z. h (told ∙ z)) in
-        rw t (record { answered = q ∙ ap (λ x. answer (reply c Done [] (session 10 x Nothing (s .busy)))) told; flash = refl; eeprom = refl })
-
-    module _ (allowed : status ≡ 0) where
-      yes-level : eqb (levelStatus k (level c)) 0 ≡ true
-      yes-level = eq-eqb _ 0 (sym told ∙ allowed)
-
-      pub wrong-address : {a : Answer} → badAddress k ≡ true → a ≡ answer (reply c Done [] (session 10 0x08 Nothing (s .busy)))
-          → Answered (board s c f e) (obey (board s c f e) k d) a f e
-      unfolding obey
-      wrong-address b q = rw (yes-level, b) (record { answered = q; flash = refl; eeprom = refl })
-
-      pub wrong-whole : {a : Answer} → badAddress k ≡ false → badLength k d ≡ true → a ≡ answer (stall (bare s c))
-          → Answered (board s c f e) (obey (board s c f e) k d) a f e
-      unfolding obey
-      wrong-whole b w q = rw (yes-level, b, w) (stalled q)
-
-      pub performed : {a : Answer} {f′ e′ : List ℕ} → badAddress k ≡ false → badLength k d ≡ false
-          → Answered (board idle c f e) (accept k (perform (board idle c f e) k d)) a f′ e′ → Answered (board s c f e) (obey (board s c f e) k d) a f′ e′
-      unfolding obey
-      performed b w r =
-          rw (yes-level, b, w, perform-session s idle c f e d k) (record { answered = r .answered; flash = r .flash; eeprom = r .eeprom })
 
   -- DNLOAD by its wLength and the state
   module _ (n : ℕ) (d : List ℕ) where

@@ -66,7 +66,7 @@ leaves-flash b a e d p =
     let few = pagesMet-le (a .0) (e .0) (badEnds-good flashSize (a .0) (e .0) (p .address-right) .short) in
     record {
       flash = programStores-programmed (a .0) (e .0) (bodyOf (a .0) (e .0) d) (b .flash) flashPages (p .flash-size) (fit .forward)
-          (omega (arith, fit)) (fit .right-count);
+          (omega (arith, fit)) (omega (arith, fit));
       eeprom = refl;
       config = refl;
       page-count = (length-programStores (a .0) (e .0) _ (b .flash), rw length-programStores few);

@@ -5,20 +5,21 @@ use mathlib.Core.Bool.{false}
 use mathlib.Core.List.{List, []}
 use mathlib.Core.Option.{Option, none, some}
 use Prim.Native.Nat.{ℕ}
+use native.Mathlib.Omega.{arith}
 use lib.ListN.{length}
 use borrow.Author.Tests.{eq-eqb}
 use Rattle.words.specs.Words.{count}
 use Rattle.memory.specs.Memory.{flashSize, eepromSize, memorySize}
 use Rattle.memory.specs.Read.{selected}
 use Rattle.memory.specs.Pages.{Store, storeAll, blockStores, chipStores}
-use Rattle.memory.specs.Program.{flashStores, eepromAfter}
+use Rattle.memory.specs.Program.{flashStores, eepromAfter, Programmable}
 use Rattle.memory.specs.Erase.{blockErase, chipErase}
 use Rattle.memory.specs.declared.address.FlashAddress.{FlashAddress}
 use Rattle.memory.specs.declared.address.EepromAddress.{EepromAddress}
 use Rattle.memory.specs.declared.address.Block.{Block}
 use Rattle.memory.specs.declared.address.Range.{Range}
 use Rattle.memory.specs.declared.address.Range.the-variants.{Flash, Eeprom}
-use Rattle.memory.proofs.ProgramLaws.{Fit, memoryAfter-fit, flashStores-fit}
+use Rattle.memory.proofs.ProgramLaws.{memoryAfter-fit, flashStores-fit}
 use Rattle.config.specs.Config.{erasedConfig}
 use Rattle.config.specs.declared.config.Config.{Config}
 use Rattle.command.specs.Address.{badEnds}
@@ -58,10 +59,10 @@ selected-sized (Eeprom a e) f m s = s .eeprom-size
 
 -- a transfer whose addresses and length are right can be programmed, into a memory of any size
 pub transfer-fit : (size a e : ℕ) (d m : List ℕ) → length m ≡ size → badEnds size a e ≡ false → wrongTransfer (Of (padding a) (count a e)) (length d) ≡ false
-    → Fit size a e (bodyOf a e d) m
+    → Programmable size a e (bodyOf a e d) m
 transfer-fit size a e d m h u w =
     let g = badEnds-good size a e u in
-    record { right-size = h; forward = g .forward; inside = g .inside; right-count = length-bodyOf a e d w }
+    record { right-size = h; forward = g .forward; inside = g .inside; right-count = omega (arith, g, length-bodyOf a e d w) }
 
 module _ (c : Config) (d f e : List ℕ) where
   abbrev b : Board

@@ -20,7 +20,7 @@ use Rattle.rules.specs.Refusals.{refusal, replySize, badSession}
 use Rattle.rules.specs.Step.{step, ask}
 use Rattle.rules.specs.BenchCases.{Ready, Unnamed, download, askStatus, askState}
 
-pub responded : {l : Level} {b : Board} → Ready l b → (u : Unnamed) (d : List ℕ) → step b (download u d) ≡ dnload b (length d) d
+responded : {l : Level} {b : Board} → Ready l b → (u : Unnamed) (d : List ℕ) → step b (download u d) ≡ dnload b (length d) d
 unfolding step ask refusal requestOf respond
 responded {l} {b} r u d =
     let n : ℕ = length d in

@@ -91,7 +91,7 @@ session-told s = record {
       );
 }
 
-pub session-right : (s : Session) → SessionRight s → badSession s ≡ false
+session-right : (s : Session) → SessionRight s → badSession s ≡ false
 session-right s = session-told s .passes
 
 -- ---- the order

@@ -27,7 +27,7 @@ use Rattle.rules.specs.Requests.{startStates, endDownload, mostData, com
 use Rattle.rules.specs.Requests.{getStatus, getState, clearIn}
 use Rattle.rules.specs.Requests.{clrStates, clrStatus, abortStates, abort, respond}
 use Rattle.rules.specs.Refusals.{knownState, badPending, badSession, badData, mostBusy, replySize, refusal}
-use Rattle.rules.specs.Step.{ask}
+use Rattle.rules.specs.Step.{ask, step, Events}
 use Rattle.rules.specs.Answered.{bare, Answered, Replied, Stepped}
 
 -- a request that is not refused
@@ -206,3 +206,7 @@ module _ (s : Session) (c : Config) (setup d f e p : List ℕ) (number : ℕ) (t
       → Stepped (board s c f e) (respond (board s c f e) q d) a f′ e′ p′ p → Stepped (board s c f e) asked a f′ e′ p′ p
   unfolding ask
   is-answered q z t r = rw (eq-eqb (refusal (board s c f e) setup d (length p)) 0 (sym number-here ∙ z), ← t) r
+
+pub events : Events
+unfolding step
+events = record { asked = λ b setup d n. refl; powered-up = λ b. refl }

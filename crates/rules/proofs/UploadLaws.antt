@@ -49,11 +49,11 @@ module _ (a e x n k : ℕ) (m p : List ℕ) (last : suc x ≡ a + k) (some-bytes
   as-many : length (take n (part a e m)) ≡ k
   as-many = ap length those ∙ length-take-le k (drop a m) (simp length-drop (omega arith))
 
-  pub how-many : copied a x m p ≡ length (take n (part a e m))
+  how-many : copied a x m p ≡ length (take n (part a e m))
   unfolding copied
   how-many = rw (le-leb a x (omega arith), lt-ltb x (length m) inside, counted, le-leb k (length p) room) (sym as-many)
 
-  pub over-front : bufferAfter a x m p ≡ take n (part a e m) ++ drop (length (take n (part a e m))) p
+  over-front : bufferAfter a x m p ≡ take n (part a e m) ++ drop (length (take n (part a e m))) p
   unfolding bufferAfter
   over-front =
       rw (le-leb a x (omega arith), lt-ltb x (length m) inside, counted, le-leb k (length p) room, those) (overlay-front (take k (drop a m)) p)

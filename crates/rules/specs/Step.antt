@@ -1,4 +1,5 @@
--- One request or power-up, and runs of them. Assumes nothing: these are definitions.
+-- One request or power-up, and runs of them. Assumes nothing: these are definitions and a statement.
+use mathlib.Core.Path.{_≡_}
 use mathlib.Core.List.{List, [], _∷_}
 use Prim.Native.Nat.{ℕ}
 use lib.Dec.{eqb}
@@ -7,7 +8,7 @@ use Rattle.words.specs.Words.{if_then_else_}
 use Rattle.memory.specs.Memory.{blankFlash, eepromSize}
 use Rattle.config.specs.Config.{deliveredConfig}
 use Rattle.config.specs.declared.config.Config.{Config}
-use Rattle.rules.specs.Session.{Session, idle}
+use Rattle.rules.specs.Session.{Session, session, Nothing, idle}
 use Rattle.rules.specs.Result.{Board, board, Result, reply, next, pages, Outcome, Done, Refused}
 use Rattle.rules.specs.Requests.{requestOf, respond}
 use Rattle.rules.specs.Refusals.{refusal}
@@ -31,6 +32,11 @@ powerUp b = reply (b .config) Done [] idle
 unfoldable pub step : Board → Event → Result
 step b (Ask setup d n) = ask b setup d n
 step b PowerUp = powerUp b
+
+-- each event by its own name
+pub record Events : Type 0 where
+  pub asked : (b : Board) (setup d : List ℕ) (n : ℕ) → step b (Ask setup d n) ≡ ask b setup d n
+  pub powered-up : (b : Board) → step b PowerUp ≡ reply (b .config) Done [] (session 2 0x00 Nothing 0)
 
 -- the board after a run
 abbrev pub after : Board → List Event → Board

@@ -1,0 +1,2 @@
+-- How a payload is judged.
+pub mod Payload
