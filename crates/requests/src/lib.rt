@@ -1,15 +1,10 @@
-// What a request asks, and what it is answered where no memory is needed: the numbered refusals, the table of levels, power-up, the
-// stall, CLRSTATUS and ABORT.
+// What a request asks, and what it is answered where no memory is needed: power-up, the stall, CLRSTATUS and ABORT.
 //
 // No public function has a `requires`: each says what it answers for every input.
-mod levels;
-mod refusal;
 mod request;
 mod session;
 mod status;
 
-pub use levels::level_status;
-pub use refusal::refusal_of;
 pub use request::request_of;
 pub use session::power_up;
 pub use status::abort;

@@ -1,0 +1,2 @@
+-- The report as the code has it.
+pub mod Report
