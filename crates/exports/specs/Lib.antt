@@ -1,4 +1,5 @@
 -- What the exported functions promise.
 pub mod Exported
 pub mod Records
+pub mod Told
 pub mod Delivered

@@ -22,6 +22,10 @@ ghost use Rattle.numbers.specs.Layout.{packSession, packConfig, commandOf};
 ghost use Rattle.exports.specs.Exported.{StepTold, numbered, commandTold, bodyTold, suffixTold};
 use command::Reading;
 use job::Verdict;
+use sessionnumbers::number_after;
+use sessionnumbers::pack_outcome;
+use sessionnumbers::pack_session;
+use sessionnumbers::session_of;
 
 // Takes one request. Session, with its busy count apart, and configuration are changed in place; `count` and `pages` get how many bytes
 // of the reply are sent and how many pages were stored. The answer is the outcome. Refused, session, busy count and configuration stay
@@ -47,7 +51,7 @@ pub extern "C" fn loader_step(
         (now (flash .exit)) (now (eeprom .exit)) (now (reply .exit)) ⌝ }
 {
     let answer = loader::step(
-        numbers::session_of(*session, *busy),
+        session_of(*session, *busy),
         numbers::config_of(*config),
         setup,
         sent,
@@ -57,11 +61,11 @@ pub extern "C" fn loader_step(
     );
     let outcome = answer.outcome;
     *busy = answer.session.busy;
-    *session = numbers::number_after(outcome, *session, numbers::pack_session(answer.session));
-    *config = numbers::number_after(outcome, *config, numbers::pack_config(answer.config));
+    *session = number_after(outcome, *session, pack_session(answer.session));
+    *config = number_after(outcome, *config, numbers::pack_config(answer.config));
     *count = answer.length;
     *pages = answer.pages;
-    numbers::pack_outcome(outcome)
+    pack_outcome(outcome)
 }
 
 // The session after power-up; `busy` gets its busy count.
@@ -71,7 +75,7 @@ pub extern "C" fn loader_power_up(busy: &mut u16) -> u64
 {
     let session = requests::power_up();
     *busy = session.busy;
-    numbers::pack_session(session)
+    pack_session(session)
 }
 
 // The configuration of a board as it is delivered.
@@ -95,11 +99,11 @@ pub extern "C" fn loader_read_command(
     ensures { λ r. ⌜ now (body .exit) ≡ bodyTold (readCommand (now (sent .entry))) (now (body .entry)) ⌝ }
     ensures { λ r. ⌜ now (suffix .exit) ≡ suffixTold (readCommand (now (sent .entry))) (now (suffix .entry)) ⌝ }
 {
-    let reading = command::read_command(sent);
-    let status = command::reading_status(reading);
+    let reading = reader::read_command(sent);
+    let status = reader::reading_status(reading);
     match reading {
         Reading::Taken(read, parts) => {
-            *command = numbers::pack_command(read);
+            *command = commandnumbers::pack_command(read);
             *body = parts.body;
             *suffix = parts.suffix;
             status
@@ -122,7 +126,7 @@ pub extern "C" fn loader_write_command(
         ⌜ (r ≡ writtenNumber written) × (now (count .exit) ≡ writtenCount written) ⌝ }
     ensures { λ r. ⌜ now (room .exit) ≡ roomAfter (commandOf command) (now (body .entry)) (now (suffix .entry)) (now (room .entry)) ⌝ }
 {
-    let written = writer::write_command(numbers::command_of(command), body, suffix, room);
+    let written = writer::write_command(commandnumbers::command_of(command), body, suffix, room);
     *count = writer::written_count(written);
     writer::written_number(written)
 }

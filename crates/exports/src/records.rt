@@ -40,7 +40,7 @@ pub extern "C" fn serial_step(
 pub extern "C" fn serial_delivered() -> u32
     ensures { λ r. ⌜ r ≡ packConfig deliveredConfig ⌝ }
 {
-    plugnumbers::pack_config(serial::delivered())
+    plugnumbers::pack_config(plugtables::delivered())
 }
 
 // Reads the characters of a record: 0 with the load offset, the type and how many bytes of data stand in the room; 1 for a wrong
@@ -59,7 +59,7 @@ pub extern "C" fn serial_read_record(
     ensures { λ r. ⌜ now (kind .exit) ≡ kindTold (readRecord (now (characters .entry)) (now (room .entry))) (now (kind .entry)) ⌝ }
     ensures { λ r. ⌜ now (count .exit) ≡ countTold (readRecord (now (characters .entry)) (now (room .entry))) (now (count .entry)) ⌝ }
 {
-    match record::read_record(characters, room) {
+    match recordreader::read_record(characters, room) {
         Reading::Taken(fields) => {
             *offset = fields.offset;
             *kind = fields.kind;
@@ -84,7 +84,7 @@ pub extern "C" fn serial_write_record(
     ensures { λ r. ⌜ now (count .exit) ≡ writtenCount (writeRecord offset kind (now (sent .entry)) (now (room .entry))) ⌝ }
     ensures { λ r. ⌜ now (room .exit) ≡ roomWritten offset kind (now (sent .entry)) (now (room .entry)) ⌝ }
 {
-    match record::write_record(offset, kind, sent, room) {
+    match recordwriter::write_record(offset, kind, sent, room) {
         Written::Wrote(size) => {
             *count = size;
             0

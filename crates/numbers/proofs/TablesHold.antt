@@ -1,4 +1,4 @@
--- The rows of specs/Tables.antt hold; but for the kinds that no row has each is computed.
+-- The rows of specs/Tables.antt hold; but for the kinds that no row has and the outcomes of every address each is computed.
 -- Assumes nothing.
 use mathlib.Core.Path.{_≡_, refl}
 use Prim.Native.Nat.{ℕ, _<_}
@@ -20,7 +20,7 @@ no-pending kind first last h = rw (
   ne-eqb kind 6 (λ z. omega arith),
 )
 
-no-row : (kind first last : ℕ) → 15 < kind → commandFor kind first last ≡ ReadHsb
+no-row : (kind first last : ℕ) → 14 < kind → commandFor kind first last ≡ ReadHsb
 unfolding commandFor
 no-row kind first last h = rw (
   ne-eqb kind 0 (λ z. omega arith),
@@ -51,6 +51,9 @@ tables = record {
   pending-reset = λ busy. (refl, refl);
   pending-start = λ busy. (refl, refl);
   no-kind = no-pending;
+  pending-alone = λ first last. (refl, refl);
+  starts-alone = λ first last. (refl, refl);
+  four-words = λ n busy. refl;
   low-8-bits = λ busy. refl;
   config = (refl, refl);
   program-flash = (refl, refl);
@@ -69,12 +72,17 @@ tables = record {
   read-version = (refl, refl);
   read-byte = (refl, refl);
   read-hsb = (refl, refl);
+  blocks-alone = λ first last. (refl, refl, refl);
+  kind-alone = λ first last. (refl, refl, refl);
+  low-bytes = λ first last. (refl, refl, refl);
+  start-alone = λ first last. refl;
+  three-words = λ n. refl;
   no-command = no-row;
   done = refl;
   stall = refl;
-  started-by-reset = refl;
-  started-at = refl;
-  refused = refl;
+  started-by-reset = λ a. omega arith;
+  started-at = λ a. omega arith;
+  refused = λ k. omega arith;
   stays = λ n lent new. refl;
   new-done = λ lent new. refl;
   new-stall = λ lent new. refl;

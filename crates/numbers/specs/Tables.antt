@@ -1,6 +1,6 @@
 -- The tables of the header for C, row by row, each with a number. Proved in proofs/TablesHold.antt.
 use mathlib.Core.Path.{_≡_}
-use Prim.Native.Nat.{ℕ, _<_}
+use Prim.Native.Nat.{ℕ, _+_, _*_, _/_, _%_, _<_}
 use Rattle.memory.specs.Memory.{flashAddress, eepromAddress}
 use Rattle.memory.specs.declared.address.FlashAddress.{FlashAddress}
 use Rattle.memory.specs.declared.address.Range.the-variants.{Flash, Eeprom}
@@ -40,7 +40,13 @@ pub record Tables : Type 0 where
   pub pending-start : Session (Start AtAddress (flashAddress 0x1234)) 0x0000123400060305
   -- "a kind of what is pending that has no row counts as 0"; "Of a value that is a byte the low 8 bits count."
   pub no-kind : (kind first last : ℕ) → 6 < kind → pendingOf kind first last ≡ Nothing
+  pub pending-alone : (first last : ℕ) → (pendingOf 3 first last ≡ BlankReport (flashAddress first)) × (pendingOf 4 first last ≡ OneByte (first % 256))
+  pub starts-alone : (first last : ℕ)
+      → (pendingOf 5 first last ≡ Start Reset (flashAddress first)) × (pendingOf 6 first last ≡ Start AtAddress (flashAddress first))
   pub low-8-bits : (busy : ℕ) → sessionOf 0xFFFF12AB00040305 busy ≡ session 0x05 0x03 (OneByte 0xAB) busy
+  pub four-words : (n busy : ℕ)
+      → sessionOf n busy ≡ session (n % 0x10000 % 256) (n % 0x10000 / 256 % 256) (pendingOf (n / 0x10000 % 0x10000) (n / 0x100000000 % 0x10000)
+      (n / 0x1000000000000 % 0x10000)) busy
   -- a configuration, BSB the lowest byte
   pub config : (packConfig someConfig ≡ 0x8877665544332211) × (configOf 0x8877665544332211 ≡ someConfig)
   -- a command: kind 0 to 15, and its numbers
@@ -60,14 +66,23 @@ pub record Tables : Type 0 where
   pub read-version : CommandNumber ReadVersion 0x000000000000000D
   pub read-byte : CommandNumber (ReadByte 0x61) 0x000000000061000E
   pub read-hsb : CommandNumber ReadHsb 0x000000000000000F
-  -- "a kind of command that has no row as 15"
-  pub no-command : (kind first last : ℕ) → 15 < kind → commandFor kind first last ≡ ReadHsb
-  -- an outcome
+  -- numbers that a kind has not are not looked at
+  pub blocks-alone : (first last : ℕ)
+      → (commandFor 5 first last ≡ EraseBlock Low) × (commandFor 6 first last ≡ EraseBlock Middle) × (commandFor 7 first last ≡ EraseBlock High)
+  pub kind-alone : (first last : ℕ)
+      → (commandFor 8 first last ≡ EraseChip) × (commandFor 11 first last ≡ StartReset) × (commandFor 13 first last ≡ ReadVersion)
+  pub low-bytes : (first last : ℕ) → (commandFor 9 first last ≡ WriteByte (first % 256) (last % 256))
+      × (commandFor 10 first last ≡ WriteHsb (first % 256)) × (commandFor 14 first last ≡ ReadByte (first % 256))
+  pub start-alone : (first last : ℕ) → commandFor 12 first last ≡ StartAt (flashAddress first)
+  pub three-words : (n : ℕ) → commandOf n ≡ commandFor (n % 0x10000) (n / 0x10000 % 0x10000) (n / 0x100000000 % 0x10000)
+  -- kind 15, and "a kind of command that has no row as 15"
+  pub no-command : (kind first last : ℕ) → 14 < kind → commandFor kind first last ≡ ReadHsb
+  -- an outcome: its kind, and from bit 16 on the address of a start or the number of a refusal, of every address and number
   pub done : packOutcome Done ≡ 0x0000000000000000
   pub stall : packOutcome Stall ≡ 0x0000000000000001
-  pub started-by-reset : packOutcome (Started Reset (flashAddress 0x1234)) ≡ 0x0000000012340002
-  pub started-at : packOutcome (Started AtAddress (flashAddress 0x1234)) ≡ 0x0000000012340003
-  pub refused : packOutcome (Refused 17) ≡ 0x0000000000110004
+  pub started-by-reset : (a : FlashAddress) → packOutcome (Started Reset a) ≡ 0x0000000000000002 + 0x10000 * a .0
+  pub started-at : (a : FlashAddress) → packOutcome (Started AtAddress a) ≡ 0x0000000000000003 + 0x10000 * a .0
+  pub refused : (k : ℕ) → packOutcome (Refused k) ≡ 0x0000000000000004 + 0x10000 * k
   -- "Refused, .. all else stays as it was, bit for bit.", and otherwise it is the new number
   pub stays : (n lent new : ℕ) → numberAfter (Refused n) lent new ≡ lent
   pub new-done : (lent new : ℕ) → numberAfter Done lent new ≡ new
