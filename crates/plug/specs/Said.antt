@@ -3,12 +3,13 @@
 use mathlib.Core.Path.{_≡_}
 use mathlib.Core.List.{List, [], _∷_, _++_}
 use mathlib.Core.Option.{some}
-use Prim.Native.Nat.{ℕ, suc, _+_, _≤_, _<_}
+use Prim.Native.Nat.{ℕ, suc, _+_, _*_, _≤_, _<_}
 use lib.ListN.{length, getD}
 use Rattle.memory.specs.Memory.{flashAddress}
 use Rattle.memory.specs.declared.address.FlashAddress.{FlashAddress}
 use Rattle.blank.specs.Blank.{AllBlank}
-use Rattle.lines.specs.Text.{ascii}
+use Rattle.words.specs.Words.{part}
+use Rattle.lines.specs.Text.{ascii, hexDigit, hexBytes}
 use Rattle.plug.specs.Config.{Config, byteValue, Setting, Byte}
 use Rattle.plug.specs.Levels.{Command, Program, Display, BlankCheck, EraseBlock, EraseChip, Write, Read, StartReset, StartAt}
 use Rattle.plug.specs.Commands.{Block}
@@ -34,7 +35,13 @@ pub record Said : Type 0 where
   pub value : valueText 0x3C ≡ 0x33 ∷ 0x43 ∷ 0x2E ∷ crLf
   pub first-wrong : blankText (some 0x1A2B) ≡ 0x31 ∷ 0x41 ∷ 0x32 ∷ 0x42 ∷ crLf
   pub first-wrong-high : blankText (some 0xFEDC) ≡ ascii "FEDC" ++ crLf
-  -- ""Address = data " & "CR" & "LF"", of the bytes at 0001h and 0002h
+  pub value-digits : (h l : ℕ) → h < 16 → l < 16 → valueText (16 * h + l) ≡ hexDigit h ∷ hexDigit l ∷ 0x2E ∷ crLf
+  pub first-wrong-digits : (a b c d : ℕ) → a < 16 → b < 16 → c < 16 → d < 16
+      → blankText (some (4096 * a + 256 * b + 16 * c + d)) ≡ hexDigit a ∷ hexDigit b ∷ hexDigit c ∷ hexDigit d ∷ crLf
+  -- ""Address = data " & "CR" & "LF"": of every address and flash, and of the bytes at 0001h and 0002h
+  pub line-digits : (a b c d e : ℕ) (f : List ℕ) → a < 16 → b < 16 → c < 16 → d < 16
+      → let start = 4096 * a + 256 * b + 16 * c + d in
+      displayLine start e f ≡ hexDigit a ∷ hexDigit b ∷ hexDigit c ∷ hexDigit d ∷ 0x3D ∷ hexBytes (part start e f) ++ crLf
   pub line : displayLine 0x0001 0x0002 (0xFF ∷ 0x12 ∷ 0xAB ∷ 0xFF ∷ []) ≡ ascii "0001=12AB" ++ crLf
   pub line-high : displayLine 0xFEDC 0xFEDC [] ≡ ascii "FEDC=" ++ crLf
   -- `X` and `P` are answers; a refusal has its number and says nothing

@@ -1,14 +1,18 @@
 -- 002's configuration bytes: how a board is delivered, what each row of "Program Configuration Information" stores and what each row of
--- "Read Configuration Information" tells. Proved in proofs/StoredHolds.antt.
+-- "Read Configuration Information" tells; and the pages of flash that each command stores. Proved in proofs/StoredHolds.antt.
 use mathlib.Core.Path.{_≡_}
-use mathlib.Core.List.{List}
+use mathlib.Core.List.{List, []}
 use Prim.Native.Nat.{ℕ, _+_, _*_, _<_}
 use Rattle.memory.specs.declared.address.FlashAddress.{FlashAddress}
+use Rattle.memory.specs.Memory.{page}
+use Rattle.memory.specs.Pages.{Store}
+use Rattle.memory.specs.Program.{bytesStores}
+use Rattle.memory.specs.Erase.{pagesErase}
 use Rattle.config.specs.declared.level.Level.the-variants.{L1, L2}
 use Rattle.plug.specs.Config.{Config, config, deliveredConfig, erasedConfig, level, withSetting, byteValue, Programmed, Unprogrammed}
 use Rattle.plug.specs.Config.{Setting, SsbLevel1, SsbLevel2, BootErased, ToBsb, ToSbv, Bljb, X2, Byte, Fixed, Ssb, Bsb, Sbv, Hsb}
 use Rattle.plug.specs.Levels.{Command, Program, Display, BlankCheck, EraseBlock, EraseChip, Write, Read, StartReset, StartAt}
-use Rattle.plug.specs.Commands.{Block}
+use Rattle.plug.specs.Commands.{Block, Block0, Block1, Block2, Block3}
 use Rattle.plug.specs.Step.{Board, perform}
 
 -- the row leaves this of a board with BSB b, SBV v, SSB s and HSB h
@@ -22,6 +26,10 @@ HsbTo x h after = (b v s : ℕ) → withSetting x (config b v s h) ≡ config b 
 -- on every board, whatever the record's data, the command leaves this of the configuration
 abbrev pub StoresOf : Command → (Config → Config) → Type 0
 StoresOf k after = (b : Board) (d : List ℕ) → perform b k d .config ≡ after (b .config)
+
+-- the same of the flash: the pages that are stored
+abbrev pub PagesOf : Command → (List ℕ → Board → List Store) → Type 0
+PagesOf k pages = (b : Board) (d : List ℕ) → perform b k d .stored ≡ pages d b
 
 pub record Stored : Type 0 where
   -- "BSB .. FFh", "SBV .. F0h", "SSB .. FCh", and HSB, from bit 7 on U P U U U P U U, 1011 1011 binary
@@ -48,6 +56,19 @@ pub record Stored : Type 0 where
   pub sbv-told : (b v s h : ℕ) → byteValue Sbv (config b v s h) ≡ v
   pub hsb-told : (b v s h : ℕ) → byteValue Hsb (config b v s h) ≡ h
   pub fixed-told : (x b v s h : ℕ) → byteValue (Fixed x) (config b v s h) ≡ x
+  -- a record of data programs its bytes, and an erase the pages of its block, from the first on; nothing else stores any
+  pub program-pages : (a : FlashAddress) → PagesOf (Program a) (λ d b. bytesStores a d (b .flash))
+  pub block-0-pages : PagesOf (EraseBlock Block0) (λ d b. pagesErase (page 0) 64 (b .flash))
+  pub block-1-pages : PagesOf (EraseBlock Block1) (λ d b. pagesErase (page 64) 64 (b .flash))
+  pub block-2-pages : PagesOf (EraseBlock Block2) (λ d b. pagesErase (page 128) 128 (b .flash))
+  pub block-3-pages : PagesOf (EraseBlock Block3) (λ d b. pagesErase (page 256) 256 (b .flash))
+  pub chip-pages : PagesOf EraseChip (λ d b. pagesErase (page 0) 512 (b .flash))
+  pub display-none : (a e : FlashAddress) → PagesOf (Display a e) (λ d b. [])
+  pub check-none : (a e : FlashAddress) → PagesOf (BlankCheck a e) (λ d b. [])
+  pub write-none : (s : Setting) → PagesOf (Write s) (λ d b. [])
+  pub read-none : (x : Byte) → PagesOf (Read x) (λ d b. [])
+  pub reset-none : PagesOf StartReset (λ d b. [])
+  pub start-none : (a : FlashAddress) → PagesOf (StartAt a) (λ d b. [])
   -- a command that is done stores what its row says, and one whose row writes no byte leaves them
   pub write-stores : (s : Setting) → StoresOf (Write s) (withSetting s)
   pub chip-stores : StoresOf EraseChip erasedConfig

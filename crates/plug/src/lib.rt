@@ -1,5 +1,5 @@
 // The rules of the serial plug, P2's board with an AT89C51SND1: its configuration, its commands and one record, as definitions, and
-// what is proved over them. The records themselves are crates/record's, the code is crates/serial's.
+// what is proved over them. The records themselves are crates/record's, the step is crates/serial's.
 mod answer;
 mod board;
 mod command;
@@ -12,3 +12,6 @@ pub use command::Block;
 pub use command::Byte;
 pub use command::Command;
 pub use command::Setting;
+
+// P2: "over 65,536 lent bytes of flash".
+pub const FLASH_SIZE: usize = 65536;

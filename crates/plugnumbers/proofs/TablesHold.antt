@@ -4,4 +4,4 @@ use mathlib.Core.Path.{refl}
 use Rattle.plugnumbers.specs.Tables.{Tables}
 
 pub tables : Tables
-tables = record { config = (refl, refl); answered = refl; started-by-reset = refl; started-at = refl; refused = refl }
+tables = record { config = (refl, refl); answered = refl; started-by-reset = refl; started-at = λ a. refl; refused = λ k. refl }

@@ -36,6 +36,11 @@ progress c at = record { config = c; at = at }
 abbrev pub startPlace : List ℕ → ℕ
 startPlace file = if ltb mostFile (length file) then length file else 0
 
+-- the same in numbers: none of the records of such a file is run
+pub record StartPlaces : Type 0 where
+  pub at-its-end : (file : List ℕ) → 1048576 < length file → startPlace file ≡ length file
+  pub at-its-beginning : (file : List ℕ) → length file ≤ 1048576 → startPlace file ≡ 0
+
 abbrev pub startProgress : List ℕ → Progress
 startProgress file = progress (startConfig file) (startPlace file)
 

@@ -1,17 +1,20 @@
 -- What the serial plug's program writes for the file of records that it reads, and examples of it, proved in proofs/ExamplesHold.antt.
 use mathlib.Core.Path.{_≡_}
 use mathlib.Core.List.{List, [], _∷_, _++_}
-use Prim.Native.Nat.{ℕ, suc, _-_, _<_}
+use Prim.Native.Nat.{ℕ, suc, _+_, _-_, _*_, _≤_, _<_}
 use lib.Dec.{ltb}
 use lib.ListN.{length, take, drop}
+use mathlib.Core.Bool.{true, false}
 use Rattle.words.specs.Words.{if_then_else_}
-use Rattle.lines.specs.Text.{ascii}
-use Rattle.lines.specs.Line.{headLine, recordsLine, refusedLine}
+use Rattle.lines.specs.Text.{ascii, decimal, hexDigit}
+use Rattle.lines.specs.Line.{wordText, headLine, recordsLine, refusedLine}
 use Rattle.lines.specs.declared.line.Word.{Word}
 use Rattle.lines.specs.declared.line.Word.the-variants as W
 use Rattle.listing.specs.Line.{startsErased}
 use Rattle.listing.specs.Records.{Span, mostFile, recordsOf, recordCount}
 use Rattle.plug.specs.declared.board.Config.{Config}
+use Rattle.memory.specs.Memory.{flashAddress}
+use Rattle.memory.specs.declared.address.FlashAddress.{FlashAddress}
 use Rattle.plug.specs.declared.answer.Outcome.{Outcome}
 use Rattle.plug.specs.declared.answer.Outcome.the-variants.{Answered, StartedReset, StartedAt, Refused}
 use Rattle.plug.specs.Config.{deliveredConfig, erasedConfig}
@@ -26,6 +29,13 @@ wordOf Answered = W.Answered
 wordOf StartedReset = W.Reset
 wordOf (StartedAt a) = W.Start
 wordOf (Refused n) = W.Refused n
+
+-- the same in letters, of every start and every refusal
+pub record WordsNamed : Type 0 where
+  pub answered : wordText (wordOf Answered) ≡ ascii "answered"
+  pub reset : wordText (wordOf StartedReset) ≡ ascii "reset"
+  pub started : (a : FlashAddress) → wordText (wordOf (StartedAt a)) ≡ ascii "start"
+  pub refused : (n : ℕ) → wordText (wordOf (Refused n)) ≡ ascii "ref" ++ decimal n
 
 -- the answer's own characters, with their CR and LF; the four digits of the address that is started at; `-` for no answer
 abbrev pub answerText : Outcome → List ℕ → List ℕ
@@ -75,6 +85,24 @@ inARow (x ∷ xs) = x ++ inARow xs
 unfoldable pub written : List ℕ → List ℕ
 written file = inARow (pieces file)
 
+-- the same in parts, of every file, board and result
+pub record Parts : Type 0 where
+  pub text : (number : ℕ) (r : Result) → recordText number r
+      ≡ (decimal number ++ ascii " " ++ wordText (wordOf (r .outcome)) ++ ascii " " ++ decimal (pages r) ++ ascii " ") ++ answerText (r .outcome) (r .text)
+  pub answered : (t : List ℕ) → answerText Answered t ≡ t
+  pub reset : (t : List ℕ) → answerText StartedReset t ≡ ascii "-\n"
+  pub refused : (n : ℕ) (t : List ℕ) → answerText (Refused n) t ≡ ascii "-\n"
+  pub started : (t : List ℕ) (a b c d : ℕ) → a < 16 → b < 16 → c < 16 → d < 16
+      → answerText (StartedAt (flashAddress (4096 * a + 256 * b + 16 * c + d))) t ≡ hexDigit a ∷ hexDigit b ∷ hexDigit c ∷ hexDigit d ∷ ascii "\n"
+  pub erased-board : (file : List ℕ) → startsErased file ≡ true → startBoard file ≡ board (erasedConfig deliveredConfig) blankFlash
+  pub other-board : (file : List ℕ) → startsErased file ≡ false → startBoard file ≡ board deliveredConfig blankFlash
+  -- each record finds the board that the one before it left
+  pub goes-on : (file : List ℕ) (b : Board) (number : ℕ) (s : Span) (ss : List Span)
+      → recordTexts file b number (s ∷ ss) ≡ recordText number (asked file s b) ∷ recordTexts file (next b (asked file s b)) (suc number) ss
+  pub asks : (file : List ℕ) (s : Span) (b : Board) → asked file s b ≡ answer b (take (s .end - s .start) (drop (s .start) file))
+  pub all : (file : List ℕ) → pieces file ≡ firstText file ∷ recordTexts file (startBoard file) 1 (recordsOf file)
+  pub first : (file : List ℕ) → length file ≤ 1048576 → firstText file ≡ ascii "records " ++ decimal (recordCount file) ++ ascii "\n"
+
 -- ---- examples: SSB as delivered is FCh, and FFh after a full chip erase
 
 abbrev pub Delivered : Type 0
@@ -98,4 +126,4 @@ abbrev pub EmptyFile : Type 0
 EmptyFile = written [] ≡ ascii "records 0\n"
 
 abbrev pub TooLong : Type 0
-TooLong = (file : List ℕ) → mostFile < length file → written file ≡ ascii "refused 16 at 0\n"
+TooLong = (file : List ℕ) → 1048576 < length file → written file ≡ ascii "refused 16 at 0\n"

@@ -7,15 +7,15 @@ ghost use Rattle.plugrun.specs.Written.{startConfig, firstText};
 ghost use Rattle.plugrun.specs.Turn.{startPlace, startProgress};
 use crate::turn::Progress;
 use lines::Put;
-use lines::records_line;
-use lines::refused_line;
 use listing::MOST_FILE;
 use listing::count_records;
 use listing::starts_erased;
 use plug::Config;
-use serial::FLASH_SIZE;
-use serial::delivered;
-use serial::erased;
+use plug::FLASH_SIZE;
+use plugtables::delivered;
+use plugtables::erased;
+use printing::records_line;
+use printing::refused_line;
 
 // "file too long"
 const TOO_LONG: u8 = 16;

@@ -11,7 +11,6 @@ ghost use Rattle.plugrun.specs.Written.{wordOf, answerText};
 ghost use Rattle.plugrun.specs.Turn.{mostAnswer, mostText, left, took, turned, answeredText};
 use lines::Word;
 use lines::end_of;
-use lines::head_line;
 use lines::hex_text;
 use lines::plain_text;
 use listing::Met;
@@ -20,6 +19,7 @@ use memory::FlashAddress;
 use plug::Answer;
 use plug::Config;
 use plug::Outcome;
+use printing::head_line;
 use serial::step;
 
 // No answer is longer: a display of all flash, in 4,096 lines of 32 digits and 7 other characters.

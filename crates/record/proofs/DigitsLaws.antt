@@ -4,6 +4,7 @@ use mathlib.Core.Path.{_≡_, refl}
 use mathlib.Core.Bool.{Bool, true, false, not, _&&_}
 use mathlib.Core.List.{List, [], _∷_}
 use Prim.Native.Nat.{ℕ, zero, suc, _-_, _/_, _≤_, _<_}
+use native.Mathlib.Nat.{le-of-suc-le-suc}
 use native.Mathlib.Omega.{arith}
 use lib.Dec.{eqb, leb}
 use lib.ListN.{length}
@@ -50,6 +51,12 @@ digit-small c h = from-small c (digitValue c) (digit-from c h)
 -- a value that is not the mark
 pub is-digit : (c v : ℕ) → v ≡ digitValue c → (v ≡ noDigit → ⊥) → isDigit c ≡ true
 is-digit c v e h = rw (← e, ne-eqb v noDigit h)
+
+-- one character that is no digit
+pub all-digits : (cs : List ℕ) (i : ℕ) → allDigits cs ≡ true → i < length cs → isDigit (byteAt cs i) ≡ true
+all-digits [] i d h = absurd (omega arith)
+all-digits (c ∷ cs) zero d h = and-true (isDigit c) (allDigits cs) d .0
+all-digits (c ∷ cs) (suc i) d h = all-digits cs i (and-true (isDigit c) (allDigits cs) d .1) (le-of-suc-le-suc h)
 
 pub length-pairs : (cs : List ℕ) → length (pairs cs) ≡ length cs / 2
 length-pairs [] = refl

@@ -1,18 +1,25 @@
--- The sentences of specs/Frames.antt hold; but for the characters that are no digit and the writer's room each is computed.
+-- The sentences of specs/Frames.antt hold; but for the characters that are no digit and for every record and room each is computed.
 -- Assumes nothing.
-use mathlib.Core.Path.{_≡_, refl, ap}
-use mathlib.Core.Bool.{false}
-use mathlib.Core.List.{List}
-use Prim.Native.Nat.{ℕ, _+_, _*_, _≤_, _<_}
+use mathlib.Core.Path.{_≡_, refl, sym, ap, _∙_}
+use mathlib.Core.Bool.{true, false, true≢false}
+use mathlib.Core.List.{List, _++_}
+use Prim.Native.Nat.{ℕ, _+_, _-_, _*_, _%_, _≤_, _<_}
+use native.Mathlib.Nat.{zero-add}
 use native.Mathlib.Omega.{arith}
-use lib.ListN.{length}
-use borrow.Author.Tests.{le-leb, lt-leb, le-ltb, lt-ltb}
+use lib.ListN.{length, drop, length-drop}
+use lib.Seq.{getD-drop}
+use borrow.Author.Tests.{ne-eqb, le-leb, lt-leb, le-ltb, lt-ltb}
+use Rattle.words.specs.Words.{byteAt}
+use Rattle.words.proofs.WordsLaws.{overlay-front}
 use Rattle.record.specs.Digits.{digitValue, isDigit}
-use Rattle.record.specs.Record.{mostData, recordOf}
-use Rattle.record.specs.Reader.{reading, readRecord, roomRead}
+use Rattle.record.specs.Record.{mostData, sum, recordOf, bytesOf, dataOf}
+use Rattle.record.specs.Reader.{Fields, Taken, WrongChecksum, Refused, lengthField, wellFormed, reading, readRecord, roomRead}
 use Rattle.record.specs.Writer.{Wrote, Unwritten, writeRecord, roomWritten}
 use Rattle.record.specs.Frames.{Frames}
+use Rattle.record.proofs.DigitsLaws.{all-digits}
 use Rattle.record.proofs.RecordLaws.{length-recordOf}
+use Rattle.record.proofs.ReaderLaws.{ill-formed, wrong-mark, Answer, no-data, refused}
+use Rattle.record.proofs.RoundTripHolds.{data-size}
 
 -- ---- a character that is in none of the three ranges
 
@@ -40,6 +47,44 @@ module _ (c : ℕ) where
     lt-leb c 102 h,
   )
 
+-- ---- the reader, in every room
+
+module _ (cs : List ℕ) where
+  bad-digit : (i : ℕ) → 1 ≤ i → i < length cs → isDigit (byteAt cs i) ≡ false → wellFormed cs ≡ false
+  bad-digit i h l z =
+      let e : 1 + (i - 1) ≡ i = omega arith in
+      let at : byteAt (drop 1 cs) (i - 1) ≡ byteAt cs i = getD-drop 1 cs (i - 1) 0 ∙ ap (byteAt cs) e in
+      ill-formed cs (λ d q. let t = all-digits (drop 1 cs) (i - 1) d (simp length-drop (omega arith)) in true≢false (sym t ∙ ap isDigit at ∙ z))
+
+  bad-length : (length cs ≡ 11 + 2 * lengthField cs → ⊥) → wellFormed cs ≡ false
+  bad-length h = ill-formed cs (λ d q. h (omega arith))
+
+  module _ (room : List ℕ) where
+    malformed : wellFormed cs ≡ false → (readRecord cs room ≡ Refused 17) × (roomRead cs room ≡ room)
+    unfolding Answer
+    malformed h = let a = refused cs room h in (sym (a .0), sym (a .1))
+
+    sum-before-room : wellFormed cs ≡ true → (sum (bytesOf cs) % 256 ≡ 0 → ⊥) → (readRecord cs room ≡ WrongChecksum) × (roomRead cs room ≡ room)
+    unfolding reading Answer
+    sum-before-room w h =
+        let a = no-data cs room WrongChecksum (rw (w, ne-eqb (sum (bytesOf cs) % 256) 0 h)) refl in
+        (sym (a .0), sym (a .1))
+
+    module _ (f : Fields) (q : reading cs ≡ Taken f) where
+      count : length (dataOf cs (f .length)) ≡ f .length
+      count = data-size cs f q .0
+
+      room-short : length room < f .length → (readRecord cs room ≡ Refused 9) × (roomRead cs room ≡ room)
+      unfolding readRecord roomRead
+      room-short h = let t = lt-ltb (length room) (f .length) h in (rw (q, count, t), rw (q, count, t))
+
+      room-right : f .length ≤ length room
+          → (readRecord cs room ≡ Taken f) × (roomRead cs room ≡ dataOf cs (f .length) ++ drop (f .length) room)
+      unfolding readRecord roomRead
+      room-right h =
+          let t = le-ltb (length room) (f .length) h in
+          (rw (q, count, t), rw (q, count, t, zero-add (f .length)))
+
 -- ---- the writer
 
 module _ (offset kind : ℕ) (d room : List ℕ) where
@@ -58,16 +103,24 @@ module _ (offset kind : ℕ) (d room : List ℕ) where
       let short = lt-ltb (length room) (length (recordOf offset kind d)) (rw size l) in
       (rw (few, short), rw (few, short))
 
-  enough-room : length d ≤ 255 → 11 + 2 * length d ≤ length room → writeRecord offset kind d room ≡ Wrote (11 + 2 * length d)
-  unfolding writeRecord
-  enough-room h l = rw (le-ltb mostData (length d) h, le-ltb (length room) (length (recordOf offset kind d)) (rw size l)) (ap Wrote size)
+  enough-room : length d ≤ 255 → 11 + 2 * length d ≤ length room
+      → (writeRecord offset kind d room ≡ Wrote (11 + 2 * length d))
+      × (roomWritten offset kind d room ≡ recordOf offset kind d ++ drop (11 + 2 * length d) room)
+  unfolding writeRecord roomWritten
+  enough-room h l =
+      let few = le-ltb mostData (length d) h in
+      let fits = le-ltb (length room) (length (recordOf offset kind d)) (rw size l) in (
+        rw (few, fits) (ap Wrote size),
+        rw (few, fits) (overlay-front (recordOf offset kind d) room ∙ rw size),
+      )
 
 pub frames : Frames
-unfolding digitValue recordOf reading readRecord roomRead roomWritten
+unfolding digitValue recordOf reading
 frames = record {
   digits = refl;
   letters = refl;
   small-letters = refl;
+  all-characters = refl;
   none-below = below;
   none-to-letters = to-letters;
   none-to-small = to-small;
@@ -75,6 +128,8 @@ frames = record {
   written = refl;
   taken = refl;
   data-taken = refl;
+  small-taken = refl;
+  small-data-taken = refl;
   no-mark = refl;
   no-digit = refl;
   nothing = refl;
@@ -83,15 +138,16 @@ frames = record {
   byte-less = refl;
   byte-more = refl;
   wrong-sum = refl;
-  room-short = refl;
-  room-unread = refl;
-  room-right = refl;
-  room-read = refl;
-  sum-before-room = refl;
+  bad-mark = wrong-mark;
+  bad-digit = bad-digit;
+  bad-length = bad-length;
+  malformed = malformed;
+  sum-before-room = sum-before-room;
+  room-short = room-short;
+  room-right = room-right;
   too-much = too-much;
   no-room = no-room;
   enough-room = enough-room;
-  room-written = refl;
   taken-0 = λ f. refl;
   wrong-1 = refl;
   refused-k = λ k. refl;

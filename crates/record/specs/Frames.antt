@@ -1,14 +1,15 @@
 -- P2's digits and 002's frame, character by character: what the reader takes and refuses, and what the writer does. Proved in
 -- proofs/FramesHold.antt.
 use mathlib.Core.Path.{_≡_}
-use mathlib.Core.Bool.{false}
+use mathlib.Core.Bool.{true, false}
 use mathlib.Core.List.{List, [], _∷_, _++_}
-use Prim.Native.Nat.{ℕ, _+_, _*_, _≤_, _<_}
-use lib.ListN.{length, replicate}
+use Prim.Native.Nat.{ℕ, _+_, _*_, _%_, _≤_, _<_}
+use lib.ListN.{length, drop}
+use Rattle.words.specs.Words.{byteAt}
 use Rattle.lines.specs.Text.{ascii}
-use Rattle.record.specs.Digits.{digitValue, isDigit, tabled}
-use Rattle.record.specs.Record.{recordOf, dataOf}
-use Rattle.record.specs.Reader.{Fields, Taken, WrongChecksum, Refused, reading, readRecord, roomRead, readingNumber}
+use Rattle.record.specs.Digits.{digitValue, isDigit, characters, tabled}
+use Rattle.record.specs.Record.{sum, bytesOf, recordOf, dataOf}
+use Rattle.record.specs.Reader.{Fields, Taken, WrongChecksum, Refused, lengthField, wellFormed, reading, readRecord, roomRead, readingNumber}
 use Rattle.record.specs.Writer.{Wrote, Unwritten, writeRecord, roomWritten, writtenNumber, writtenCount}
 use Rattle.record.specs.RoundTrip.{fields}
 
@@ -24,7 +25,8 @@ pub record Frames : Type 0 where
   pub digits : tabled digitValue 0x30 10 ≡ 0 ∷ 1 ∷ 2 ∷ 3 ∷ 4 ∷ 5 ∷ 6 ∷ 7 ∷ 8 ∷ 9 ∷ []
   pub letters : tabled digitValue 0x41 6 ≡ 10 ∷ 11 ∷ 12 ∷ 13 ∷ 14 ∷ 15 ∷ []
   pub small-letters : tabled digitValue 0x61 6 ≡ 10 ∷ 11 ∷ 12 ∷ 13 ∷ 14 ∷ 15 ∷ []
-  -- and no other
+  -- "array of 256 bytes": every character has its entry; and no other is a digit
+  pub all-characters : characters ≡ 256
   pub none-below : (c : ℕ) → c < 0x30 → isDigit c ≡ false
   pub none-to-letters : (c : ℕ) → 0x39 < c → c < 0x41 → isDigit c ≡ false
   pub none-to-small : (c : ℕ) → 0x46 < c → c < 0x61 → isDigit c ≡ false
@@ -33,6 +35,9 @@ pub record Frames : Type 0 where
   pub written : recordOf 0x1234 0x05 someData ≡ someRecord
   pub taken : reading someRecord ≡ Taken (fields 0x1234 0x05 3)
   pub data-taken : dataOf someRecord 3 ≡ someData
+  -- "small letters are accepted", in a whole record
+  pub small-taken : reading (ascii ":0312340506ab55ac") ≡ Taken (fields 0x1234 0x05 3)
+  pub small-data-taken : dataOf (ascii ":0312340506ab55ac") 3 ≡ someData
   -- "17 for a character that is no hex digit or a record of wrong length": the mark, a digit; no data, a character less and more, a byte
   -- less and more than the record length says
   pub no-mark : reading (ascii ";0312340506AB55AC") ≡ Refused 17
@@ -44,20 +49,27 @@ pub record Frames : Type 0 where
   pub byte-more : reading (ascii ":0312340506AB55AC00") ≡ Refused 17
   -- "then `X` for a wrong checksum"
   pub wrong-sum : reading (ascii ":0312340506AB55AD") ≡ WrongChecksum
-  -- 9, "room too short", comes last; "refusing, it leaves its room unwritten, and otherwise the room past its answer"
-  pub room-short : readRecord someRecord (1 ∷ 2 ∷ []) ≡ Refused 9
-  pub room-unread : roomRead someRecord (1 ∷ 2 ∷ []) ≡ 1 ∷ 2 ∷ []
-  pub room-right : readRecord someRecord (1 ∷ 2 ∷ 3 ∷ 4 ∷ []) ≡ Taken (fields 0x1234 0x05 3)
-  pub room-read : roomRead someRecord (1 ∷ 2 ∷ 3 ∷ 4 ∷ []) ≡ 0x06 ∷ 0xAB ∷ 0x55 ∷ 4 ∷ []
-  pub sum-before-room : readRecord (ascii ":0312340506AB55AD") [] ≡ WrongChecksum
+  -- of every record: its first character is no mark, one after it is no digit, or there are not two for each byte and one
+  pub bad-mark : (cs : List ℕ) → (byteAt cs 0 ≡ 0x3A → ⊥) → wellFormed cs ≡ false
+  pub bad-digit : (cs : List ℕ) (i : ℕ) → 1 ≤ i → i < length cs → isDigit (byteAt cs i) ≡ false → wellFormed cs ≡ false
+  pub bad-length : (cs : List ℕ) → (length cs ≡ 11 + 2 * lengthField cs → ⊥) → wellFormed cs ≡ false
+  -- these come first, whatever the sum and the room; then `X`; 9, "room too short", comes last. "refusing, it leaves its room unwritten,
+  -- and otherwise the room past its answer"
+  pub malformed : (cs room : List ℕ) → wellFormed cs ≡ false → (readRecord cs room ≡ Refused 17) × (roomRead cs room ≡ room)
+  pub sum-before-room : (cs room : List ℕ) → wellFormed cs ≡ true → (sum (bytesOf cs) % 256 ≡ 0 → ⊥)
+      → (readRecord cs room ≡ WrongChecksum) × (roomRead cs room ≡ room)
+  pub room-short : (cs room : List ℕ) (f : Fields) → reading cs ≡ Taken f → length room < f .length
+      → (readRecord cs room ≡ Refused 9) × (roomRead cs room ≡ room)
+  pub room-right : (cs room : List ℕ) (f : Fields) → reading cs ≡ Taken f → f .length ≤ length room
+      → (readRecord cs room ≡ Taken f) × (roomRead cs room ≡ dataOf cs (f .length) ++ drop (f .length) room)
   -- the writer: 17 for more than 255 bytes of data, then 9 for a room of fewer characters than a mark and two for each byte
   pub too-much : (offset kind : ℕ) (d room : List ℕ) → 255 < length d
       → (writeRecord offset kind d room ≡ Unwritten 17) × (roomWritten offset kind d room ≡ room)
   pub no-room : (offset kind : ℕ) (d room : List ℕ) → length d ≤ 255 → length room < 11 + 2 * length d
       → (writeRecord offset kind d room ≡ Unwritten 9) × (roomWritten offset kind d room ≡ room)
   pub enough-room : (offset kind : ℕ) (d room : List ℕ) → length d ≤ 255 → 11 + 2 * length d ≤ length room
-      → writeRecord offset kind d room ≡ Wrote (11 + 2 * length d)
-  pub room-written : roomWritten 0x1234 0x05 someData (replicate 18 0x7A) ≡ someRecord ++ (0x7A ∷ [])
+      → (writeRecord offset kind d room ≡ Wrote (11 + 2 * length d))
+      × (roomWritten offset kind d room ≡ recordOf offset kind d ++ drop (11 + 2 * length d) room)
   -- the number of each answer: 0 where nothing is refused, 1 for `X`, and else the refusal's
   pub taken-0 : (f : Fields) → readingNumber (Taken f) ≡ 0
   pub wrong-1 : readingNumber WrongChecksum ≡ 1

@@ -21,7 +21,8 @@ use Rattle.plug.specs.declared.command.Command.{Command}
 use Rattle.plug.specs.Commands.{flashSize}
 use Rattle.plug.specs.Step.{Board, refused, answerTo, answer, inRoom, step}
 use Rattle.plug.specs.Answered.{Stepped}
-use Rattle.serial.specs.Form.{Is, Unlisted, formOf}
+use Rattle.plugtables.specs.Form.{formOf}
+use Rattle.plugtables.specs.declared.form.Form.the-variants.{Is, Unlisted}
 
 -- what a form says of the command
 pub listed : (o : Option Command) (k : Command) → formOf o ≡ Is k → o ≡ some k

@@ -1,0 +1,2 @@
+-- That the table has one permitted answer.
+pub mod OneAnswer

@@ -1,0 +1,3 @@
+-- The laws by which the code meets its contracts.
+pub mod SteppedLaws
+pub mod OneAnswer

@@ -1,0 +1,2 @@
+-- What a command does, as the code has it.
+pub mod Performed

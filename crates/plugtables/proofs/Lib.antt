@@ -1,0 +1,2 @@
+-- That the tables' functions have one permitted answer each.
+pub mod OneAnswer

@@ -1,0 +1,2 @@
+-- The form of a record as the code has it.
+pub mod Form

@@ -1,0 +1,4 @@
+-- The laws by which the code meets its contracts, and what the crate's public function permits.
+pub mod PairsLaws
+pub mod PassedLaws
+pub mod OneAnswer

@@ -1,0 +1,2 @@
+-- The answers as the code has them.
+pub mod Replies
