@@ -15,10 +15,10 @@ use job::Verdict;
 use job::check_job;
 use job::count_requests;
 use lines::end_of;
-use lines::job_line;
-use lines::refused_line;
 use memory::EEPROM_SIZE;
 use memory::FLASH_SIZE;
+use printing::job_line;
+use printing::refused_line;
 
 const REPLY_SIZE: usize = 1024;
 
