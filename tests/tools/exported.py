@@ -1,7 +1,6 @@
 """What crates/exports exports, read from three places: the Rattle source, the Rust declarations and the C header; and the layout of its
-numbers, read from the code of crates/numbers and crates/plugnumbers and from the tables of the header; the most that the busy page
-count may be, read from the code of crates/requests and from the header; and the stack that calls take, read from docs/PROMISES.md and
-from the header."""
+numbers, read from the code that packs them and from the tables of the header; the most that the busy page count may be, read from the
+code of crates/refusals and from the header; and the stack that calls take, read from docs/PROMISES.md and from the header."""
 import re
 
 RATTLE = {
@@ -116,7 +115,8 @@ def from_code(read):
     """All tables, by the code: `read` gives the text of a file, named by its crate and its place in src."""
     starts, word, byte = bits(read("numbers/packing.rt"))
     place = [f"bits {start}-{start + word - 1}" for start in starts]
-    session, config, command, outcome = (read(f"numbers/{name}_number.rt") for name in ("session", "config", "command", "outcome"))
+    session, outcome = read("sessionnumbers/session_number.rt"), read("sessionnumbers/outcome_number.rt")
+    config, command = read("numbers/config_number.rt"), read("commandnumbers/command_number.rt")
 
     state, status = re.search(r"two_bytes\(session\.(\w+), session\.(\w+)\), pending", session).groups()
     head = [named(0, byte, state), named(byte, byte, status), named(starts[1], word, "kind")]
@@ -160,7 +160,7 @@ def from_header(text):
 
 
 def most_busy_of_code(read):
-    return re.findall(r"const MOST_BUSY: u16 = (\d+);", read("requests/refusal.rt"))
+    return re.findall(r"const MOST_BUSY: u16 = (\d+);", read("refusals/refusal.rt"))
 
 
 def most_busy_of_header(text):
