@@ -1,8 +1,8 @@
 -- The lines of the bench programs. Assumes nothing: these are definitions and a statement.
 use mathlib.Core.Path.{_≡_}
 use mathlib.Core.List.{List, [], _∷_, _++_}
-use Prim.Native.Nat.{ℕ}
-use Rattle.lines.specs.Text.{ascii, decimal, hexByte, hexBytes}
+use Prim.Native.Nat.{ℕ, _/_, _%_}
+use Rattle.lines.specs.Text.{ascii, decimal, hexDigit, hexByte, hexBytes}
 pub use Rattle.lines.specs.declared.line.Word.{Word}
 pub use Rattle.lines.specs.declared.line.Word.the-variants.{Done, Stall, Start, Answered, Reset, Refused}
 
@@ -63,6 +63,7 @@ pub record LinesNamed : Type 0 where
   pub request : (number : ℕ) (word : Word) (state status pages : ℕ) (reply : List ℕ) → requestLine number word state status pages reply
       ≡ decimal number ++ ascii " " ++ wordText word ++ ascii " " ++ decimal state ++ ascii " " ++ hexByte status ++ ascii " "
       ++ decimal pages ++ ascii " " ++ replyText reply ++ ascii "\n"
+  pub two-digits : (b : ℕ) (bs : List ℕ) → hexBytes (b ∷ bs) ≡ hexDigit (b / 16) ∷ hexDigit (b % 16) ∷ hexBytes bs
   pub reply : (b : ℕ) (bs : List ℕ) → replyText (b ∷ bs) ≡ hexBytes (b ∷ bs)
   pub no-reply : replyText [] ≡ ascii "-"
   pub job : (n : ℕ) → jobLine n ≡ ascii "job " ++ decimal n ++ ascii "\n"

@@ -70,5 +70,6 @@ said = record {
   blank-ok = λ b a e h d. (refl, ap blankText (usedIn-none (a .0) (e .0) (b .flash) (λ i l m. h i l (omega arith))));
   blank-fails = λ b a e x h l i f g d. (refl, ap blankText (usedIn-some (a .0) (e .0) x (b .flash) h l i f g));
   one-line = λ b a e h l d. (refl, single (a .0) (e .0) (b .flash) h l);
+  display-answered = λ b a e d. refl;
   more-lines = λ b a e h d. several (a .0) (e .0) (b .flash) h;
 }

@@ -62,5 +62,6 @@ pub record Said : Type 0 where
       → (getD (b .flash) x 0 ≡ 0xFF → ⊥) → SaysOn b (BlankCheck a e) (blankText (some x))
   -- "The device splits into blocks of 16 bytes": up to 16 bytes are one line, and more are a line of 16 and the display of the rest
   pub one-line : (b : Board) (a e : FlashAddress) → a .0 ≤ e .0 → e .0 < a .0 + 16 → SaysOn b (Display a e) (displayLine (a .0) (e .0) (b .flash))
+  pub display-answered : (b : Board) (a e : FlashAddress) (d : List ℕ) → perform b (Display a e) d .outcome ≡ Answered
   pub more-lines : (b : Board) (a e : FlashAddress) → a .0 + 16 ≤ e .0 → (d : List ℕ)
       → perform b (Display a e) d .text ≡ displayLine (a .0) (a .0 + 15) (b .flash) ++ perform b (Display (flashAddress (a .0 + 16)) e) d .text

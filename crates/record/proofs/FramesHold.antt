@@ -8,11 +8,11 @@ use native.Mathlib.Nat.{zero-add}
 use native.Mathlib.Omega.{arith}
 use lib.ListN.{length, drop, length-drop}
 use lib.Seq.{getD-drop}
-use borrow.Author.Tests.{ne-eqb, le-leb, lt-leb, le-ltb, lt-ltb}
+use borrow.Author.Tests.{eq-eqb, ne-eqb, le-leb, lt-leb, le-ltb, lt-ltb}
 use Rattle.words.specs.Words.{byteAt}
 use Rattle.words.proofs.WordsLaws.{overlay-front}
 use Rattle.record.specs.Digits.{digitValue, isDigit}
-use Rattle.record.specs.Record.{mostData, sum, recordOf, bytesOf, dataOf}
+use Rattle.record.specs.Record.{recordMark, characterCount, mostData, sum, recordOf, bytesOf, dataOf}
 use Rattle.record.specs.Reader.{Fields, Taken, WrongChecksum, Refused, lengthField, wellFormed, reading, readRecord, roomRead}
 use Rattle.record.specs.Writer.{Wrote, Unwritten, writeRecord, roomWritten}
 use Rattle.record.specs.Frames.{Frames}
@@ -138,6 +138,8 @@ frames = record {
   byte-less = refl;
   byte-more = refl;
   wrong-sum = refl;
+  all-right = λ cs m d l. rw (eq-eqb (byteAt cs 0) recordMark m, d) (eq-eqb (length cs) (characterCount (lengthField cs)) (omega (arith, l)));
+  digits-on = λ c cs h. rw h;
   bad-mark = wrong-mark;
   bad-digit = bad-digit;
   bad-length = bad-length;

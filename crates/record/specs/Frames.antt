@@ -7,7 +7,7 @@ use Prim.Native.Nat.{ℕ, _+_, _*_, _%_, _≤_, _<_}
 use lib.ListN.{length, drop}
 use Rattle.words.specs.Words.{byteAt}
 use Rattle.lines.specs.Text.{ascii}
-use Rattle.record.specs.Digits.{digitValue, isDigit, characters, tabled}
+use Rattle.record.specs.Digits.{digitValue, isDigit, allDigits, characters, tabled}
 use Rattle.record.specs.Record.{sum, bytesOf, recordOf, dataOf}
 use Rattle.record.specs.Reader.{Fields, Taken, WrongChecksum, Refused, lengthField, wellFormed, reading, readRecord, roomRead, readingNumber}
 use Rattle.record.specs.Writer.{Wrote, Unwritten, writeRecord, roomWritten, writtenNumber, writtenCount}
@@ -50,6 +50,8 @@ pub record Frames : Type 0 where
   -- "then `X` for a wrong checksum"
   pub wrong-sum : reading (ascii ":0312340506AB55AD") ≡ WrongChecksum
   -- of every record: its first character is no mark, one after it is no digit, or there are not two for each byte and one
+  pub all-right : (cs : List ℕ) → byteAt cs 0 ≡ 0x3A → allDigits (drop 1 cs) ≡ true → length cs ≡ 11 + 2 * lengthField cs → wellFormed cs ≡ true
+  pub digits-on : (c : ℕ) (cs : List ℕ) → isDigit c ≡ true → allDigits (c ∷ cs) ≡ allDigits cs
   pub bad-mark : (cs : List ℕ) → (byteAt cs 0 ≡ 0x3A → ⊥) → wellFormed cs ≡ false
   pub bad-digit : (cs : List ℕ) (i : ℕ) → 1 ≤ i → i < length cs → isDigit (byteAt cs i) ≡ false → wellFormed cs ≡ false
   pub bad-length : (cs : List ℕ) → (length cs ≡ 11 + 2 * lengthField cs → ⊥) → wellFormed cs ≡ false

@@ -7,6 +7,10 @@ use Rattle.words.specs.Words.{AmongThese, WordsRead}
 
 pub words-read : WordsRead
 words-read = record {
+  first-byte = λ x d. refl;
+  further-byte = λ x i d. refl;
+  no-byte = λ i. refl;
+  bytes-between = λ a e m. refl;
   high-byte-first = λ x y d. refl;
   high-further = λ x i d. refl;
   low-byte-first = λ x y d. refl;
