@@ -15,7 +15,7 @@ use Rattle.job.specs.Requests.{requestsOf}
 use Rattle.job.specs.Causes.{Whole, FieldCauses, Causes}
 
 module _ (file : List ℕ) (at end : ℕ) where
-  not-beyond : Whole file at end → beyond file at end ≡ false
+  pub not-beyond : Whole file at end → beyond file at end ≡ false
   not-beyond w = rw (le-ltb end (valueAt at) (w .head), le-ltb end (endAt file at) (w .value))
 
   whole : beyond file at end ≡ false → Whole file at end
@@ -23,7 +23,7 @@ module _ (file : List ℕ) (at end : ℕ) where
       let o = or-false (ltb end (valueAt at)) (ltb end (endAt file at)) q in
       record { head = ltb-false end (valueAt at) (o .0); value = ltb-false end (endAt file at) (o .1) }
 
-  is-beyond : (Whole file at end → ⊥) → (t : Bool) → beyond file at end ≡ t → t ≡ true
+  pub is-beyond : (Whole file at end → ⊥) → (t : Bool) → beyond file at end ≡ t → t ≡ true
   is-beyond h true q = refl
   is-beyond h false q = absurd (h (whole q))
 

@@ -39,7 +39,7 @@ one-more : (file : List ℕ) (at : ℕ) → walk file at ≡ walkIn (suc (length
 unfolding walk
 one-more file at = enough (length file) (suc (length file)) file at (omega arith) (omega arith)
 
-walk-none : (file : List ℕ) (at : ℕ) → beyond file at (length file) ≡ true → walk file at ≡ []
+pub walk-none : (file : List ℕ) (at : ℕ) → beyond file at (length file) ≡ true → walk file at ≡ []
 unfolding walk
 walk-none file at b = in-none (length file) file at b
 
@@ -49,13 +49,13 @@ module _ (file : List ℕ) (at : ℕ) (b : beyond file at (length file) ≡ fals
   unfolding walk
   walk-some = one-more file at ∙ in-some (length file) file at b
 
-  walk-request : tagAt file at ≡ requestTag → walk file at ≡ span (valueAt at) (lengthAt file at) ∷ walk file (endAt file at)
+  pub walk-request : tagAt file at ≡ requestTag → walk file at ≡ span (valueAt at) (lengthAt file at) ∷ walk file (endAt file at)
   walk-request t = walk-some ∙ by-request _ _ _ _ t
 
-  walk-group : tagAt file at ≡ groupTag → walk file at ≡ walk file (valueAt at)
+  pub walk-group : tagAt file at ≡ groupTag → walk file at ≡ walk file (valueAt at)
   walk-group t = walk-some ∙ by-group _ _ _ _ t
 
-  walk-other : (tagAt file at ≡ requestTag → ⊥) → (tagAt file at ≡ groupTag → ⊥) → walk file at ≡ walk file (endAt file at)
+  pub walk-other : (tagAt file at ≡ requestTag → ⊥) → (tagAt file at ≡ groupTag → ⊥) → walk file at ≡ walk file (endAt file at)
   walk-other p q = walk-some ∙ by-other _ _ _ _ p q
 
 -- ---- a turn of the loop that walks: it began at `from` and is at `at`, with the size of the field in a local

@@ -14,6 +14,7 @@ pub lines-named : LinesNamed
 unfolding requestLine jobLine refusedLine recordsLine headLine
 lines-named = record {
   request = λ number word state status pages reply. refl;
+  refused-word = λ k. refl;
   two-digits = λ b bs. refl;
   reply = λ b bs. refl;
   no-reply = refl;

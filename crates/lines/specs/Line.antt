@@ -63,6 +63,7 @@ pub record LinesNamed : Type 0 where
   pub request : (number : ℕ) (word : Word) (state status pages : ℕ) (reply : List ℕ) → requestLine number word state status pages reply
       ≡ decimal number ++ ascii " " ++ wordText word ++ ascii " " ++ decimal state ++ ascii " " ++ hexByte status ++ ascii " "
       ++ decimal pages ++ ascii " " ++ replyText reply ++ ascii "\n"
+  pub refused-word : (k : ℕ) → wordText (Refused k) ≡ ascii "ref" ++ decimal k
   pub two-digits : (b : ℕ) (bs : List ℕ) → hexBytes (b ∷ bs) ≡ hexDigit (b / 16) ∷ hexDigit (b % 16) ∷ hexBytes bs
   pub reply : (b : ℕ) (bs : List ℕ) → replyText (b ∷ bs) ≡ hexBytes (b ∷ bs)
   pub no-reply : replyText [] ≡ ascii "-"

@@ -25,6 +25,8 @@ putEnd (Unwritten k) = 0
 
 -- the same sentences in the paper's numbers, of any text and room
 pub record PutNumbered : Type 0 where
+  pub written-0 : (end : ℕ) → (putNumber (Upto end) ≡ 0) × (putEnd (Upto end) ≡ end)
+  pub refused-k : (k : ℕ) → (putNumber (Unwritten k) ≡ k) × (putEnd (Unwritten k) ≡ 0)
   pub number-written : (at : ℕ) (text room : List ℕ) → at + length text ≤ length room → putNumber (put at text room) ≡ 0
   pub end-written : (at : ℕ) (text room : List ℕ) → at + length text ≤ length room → putEnd (put at text room) ≡ at + length text
   pub number-refused : (at : ℕ) (text room : List ℕ) → length room < at + length text → putNumber (put at text room) ≡ 9

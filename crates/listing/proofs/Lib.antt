@@ -2,4 +2,5 @@
 pub mod LineLaws
 pub mod RecordsLaws
 pub mod FilesHold
+pub mod LinesHold
 pub mod OneAnswer

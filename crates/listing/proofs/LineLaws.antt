@@ -120,11 +120,11 @@ empty-no-record file at end h = rw (le-ltb at end h)
 pub record-some : (file : List ℕ) (at end : ℕ) → isRecord file at end ≡ true → at < end
 record-some file at end e = ltb-true at end (and-true _ _ e .0)
 
-same-refl : (bs : List ℕ) → sameBytes bs bs ≡ true
+pub same-refl : (bs : List ℕ) → sameBytes bs bs ≡ true
 same-refl [] = refl
 same-refl (b ∷ bs) = rw (eq-eqb b b refl) (same-refl bs)
 
-same-equal : (bs cs : List ℕ) → sameBytes bs cs ≡ true → bs ≡ cs
+pub same-equal : (bs cs : List ℕ) → sameBytes bs cs ≡ true → bs ≡ cs
 same-equal [] [] e = refl
 same-equal [] (c ∷ cs) e = let z : _≡_ {A = ℕ} 0 1 = cc in absurd (omega arith)
 same-equal (b ∷ bs) [] e = let z : _≡_ {A = ℕ} 0 1 = cc in absurd (omega arith)

@@ -7,11 +7,12 @@ use mathlib.Core.List.{List, [], _∷_}
 use Prim.Native.Nat.{ℕ, zero, suc, _+_, _-_, _≤_, _<_}
 use native.Mathlib.Numerals.{add-one}
 use native.Mathlib.Omega.{arith}
+use lib.Dec.{leb, ltb}
 use lib.ListN.{length}
 use borrow.Author.Tests.{le-leb, lt-leb}
 use Rattle.words.specs.Words.{if_then_else_}
 use Rattle.listing.specs.Line.{lineEnd, withoutReturn, textEnd, isRecord}
-use Rattle.listing.specs.Records.{Record, NoMore, Span, span, recordsIn, recordsFrom, firstMet, walkedOn, walked, InOrder}
+use Rattle.listing.specs.Records.{Record, NoMore, Span, span, mostFile, recordsIn, recordsFrom, recordsOf, firstMet, walkedOn, walked, InOrder}
 use Rattle.listing.proofs.LineLaws.{which, lt-or-ge, line-within, line-again, line-before, cut, cut-or-not, not-cut-empty, cut-bounds}
 use Rattle.listing.proofs.LineLaws.{Returns, empty-no-record, record-some}
 
@@ -42,11 +43,32 @@ module _ (file : List ℕ) (at : ℕ) (h : at < length file) where
   unfolding recordsFrom recordsIn
   from-some = one-more file at ∙ simp (lt-leb _ _ h)
 
-  from-record : isRecord file at (textEnd file at) ≡ true → recordsFrom file at ≡ span at (textEnd file at) ∷ recordsFrom file (suc (lineEnd file at))
+  pub from-record : isRecord file at (textEnd file at) ≡ true → recordsFrom file at ≡ span at (textEnd file at) ∷ recordsFrom file (suc (lineEnd file at))
   from-record e = from-some ∙ rw e
 
-  from-other : isRecord file at (textEnd file at) ≡ false → recordsFrom file at ≡ recordsFrom file (suc (lineEnd file at))
+  pub from-other : isRecord file at (textEnd file at) ≡ false → recordsFrom file at ≡ recordsFrom file (suc (lineEnd file at))
   from-other e = from-some ∙ rw e
+
+-- ---- no more records than bytes
+
+one-or-none : (t u : Bool) (s : Span) (ss : List Span) (n : ℕ) → length ss ≤ n → length (if t then [] else if u then s ∷ ss else ss) ≤ suc n
+one-or-none true u s ss n h = omega arith
+one-or-none false true s ss n h = omega arith
+one-or-none false false s ss n h = omega arith
+
+in-few : (n : ℕ) (file : List ℕ) (at : ℕ) → length (recordsIn n file at) ≤ n
+unfolding recordsIn
+in-few zero file at = omega arith
+in-few (suc n) file at =
+    one-or-none (leb (length file) at) (isRecord file at (textEnd file at)) (span at (textEnd file at)) (recordsIn n file (suc (lineEnd file at))) n
+    (in-few n file (suc (lineEnd file at)))
+
+pub records-few : (file : List ℕ) → length (recordsOf file) ≤ length file
+unfolding recordsOf recordsFrom
+records-few file = either (ltb mostFile (length file)) where
+  either : (t : Bool) → length (if t then [] else recordsIn (length file) file 0) ≤ length file
+  either true = omega arith
+  either false = in-few (length file) file 0
 
 -- ---- from the end of a line's characters on the same follows as from behind the line
 

@@ -2,3 +2,4 @@
 pub mod Line
 pub mod Records
 pub mod Files
+pub mod Lines

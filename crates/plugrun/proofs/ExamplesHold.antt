@@ -22,7 +22,7 @@ use Rattle.plugrun.specs.Turn.{StartPlaces}
 use Rattle.plugrun.specs.Written.{Delivered, Erased, CarriedOn, EmptyFile, TooLong}
 
 pub parts : Parts
-unfolding startConfig recordTexts firstText pieces headLine recordsLine
+unfolding startConfig recordTexts firstText pieces written headLine recordsLine
 parts = record {
   text = λ number r. refl;
   answered = λ t. refl;
@@ -34,6 +34,10 @@ parts = record {
   goes-on = λ file b number s ss. refl;
   asks = λ file s b. refl;
   all = λ file. refl;
+  in-a-row = λ file. refl;
+  piece-and-rest = λ x xs. refl;
+  no-piece = refl;
+  no-record = λ file b number. refl;
   first = λ file h. rw (le-ltb mostFile (length file) h);
 }
 
@@ -41,6 +45,7 @@ pub start-places : StartPlaces
 start-places = record {
   at-its-end = λ file h. rw (lt-ltb mostFile (length file) h);
   at-its-beginning = λ file h. rw (le-ltb mostFile (length file) h);
+  with-its-board = λ file. refl;
 }
 
 pub words-named : WordsNamed

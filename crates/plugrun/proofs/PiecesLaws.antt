@@ -9,6 +9,7 @@ use native.Mathlib.Nat.{zero-add}
 use native.Mathlib.Omega.{arith}
 use lib.Dec.{ltb}
 use lib.ListN.{length, take, drop, getD, length-drop}
+use lib.Seq.{ext-getD}
 use Rattle.words.specs.Words.{if_then_else_, laid}
 use Rattle.words.proofs.WordsLaws.{length-overlay}
 use Rattle.lines.specs.Line.{recordsLine, refusedLine, mostRefusedLine}
@@ -20,11 +21,11 @@ use Rattle.listing.specs.Records.{Span, span, mostFile, recordsFrom, recordsOf,
 use Rattle.listing.specs.declared.walk.Met.{Met}
 use Rattle.listing.specs.declared.walk.Met.the-variants.{Record, NoMore}
 use Rattle.listing.proofs.LineLaws.{which}
-use Rattle.listing.proofs.RecordsLaws.{Steps, steps, from-none, no-more}
+use Rattle.listing.proofs.RecordsLaws.{Steps, steps, from-none, no-more, records-few}
 use Rattle.plug.specs.Step.{Board, board, Result, next, blankFlash}
-use Rattle.plugrun.specs.Written.{recordText, asked, recordTexts, firstText, pieces}
+use Rattle.plugrun.specs.Written.{recordText, asked, startBoard, recordTexts, firstText, pieces, inARow, written}
 use Rattle.plugrun.specs.Turn.{Progress, Turn, Took, AllTaken, Left, progress, boardAt, took, metTurn, turned}
-use Rattle.plugrun.specs.Turn.{mostText, startPlace, startProgress, IsPiece}
+use Rattle.plugrun.specs.Turn.{mostText, startPlace, startProgress, IsPiece, HandedOnInOrder}
 use Rattle.plugrun.proofs.TurnLaws.{text-front, recordText-le}
 
 -- ---- the definitions
@@ -54,6 +55,24 @@ next-piece [] ys zero y e = let z : _≡_ {A = ℕ} 0 1 = cc in absurd (omega ar
 next-piece [] ys (suc n) y e = let z : _≡_ {A = ℕ} 0 1 = cc in absurd (omega arith)
 next-piece (x ∷ xs) ys zero y e = (cc, omega arith, cc)
 next-piece (x ∷ xs) ys (suc n) y e = let t = next-piece xs ys n y e in (t .0, omega (arith, t .1), t .2)
+
+-- as many texts as there are records, which are not more than the file has bytes
+texts-count : (file : List ℕ) (b : Board) (number : ℕ) (ss : List Span) → length (recordTexts file b number ss) ≡ length ss
+unfolding recordTexts
+texts-count file b number [] = refl
+texts-count file b number (s ∷ ss) = ap suc (texts-count file (next b (asked file s b)) (suc number) ss)
+
+pieces-few : (file : List ℕ) → length (pieces file) ≤ suc (length file)
+unfolding pieces
+pieces-few file = omega (arith, texts-count file (startBoard file) 1 (recordsOf file), records-few file)
+
+-- each text being the piece of its number, the texts are the pieces
+pub handed-on-in-order : HandedOnInOrder
+unfolding written
+handed-on-in-order = record {
+  each = λ file number h. record { the-piece = refl; there = h; number-small = omega (arith, pieces-few file) };
+  all = λ file texts l each. ap inARow (ext-getD [] texts (pieces file) l (λ i h. each i h .the-piece));
+}
 
 -- ---- a run
 

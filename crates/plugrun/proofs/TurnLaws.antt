@@ -1,6 +1,6 @@
 -- Laws of one turn: the text of an answer, and the record that was taken.
 -- Assumes nothing.
-use mathlib.Core.Path.{_≡_, ap, _∙_}
+use mathlib.Core.Path.{_≡_, refl, ap, _∙_}
 use mathlib.Core.List.{List}
 use Prim.Native.Nat.{ℕ, _+_, _-_, _≤_}
 use native.Mathlib.Nat.{zero-add}
@@ -22,12 +22,23 @@ use Rattle.plug.specs.declared.answer.Outcome.the-variants.{Answered, StartedRe
 use Rattle.plug.specs.Step.{Board, Result, next, pages, step}
 use Rattle.plug.specs.Answered.{answerOf, Stepped}
 use Rattle.plugrun.specs.Written.{wordOf, answerText, recordText, asked}
-use Rattle.plugrun.specs.Turn.{Took, mostAnswer, mostText, progress, left, took, answeredText}
+use Rattle.plugrun.specs.Turn.{Took, mostAnswer, mostText, progress, left, took, turned, EachTurn, answeredText}
 use Rattle.plugrun.proofs.LongestLaws.{answer-short, step-whole}
 
 -- what was laid over the front of a memory
 pub text-front : (x m : List ℕ) → take (length x) (overlay 0 x m) ≡ x
 text-front x m = ap (take (length x)) (overlay-front x m) ∙ take-append-seam x (drop (length x) m)
+
+pub each-turn : EachTurn
+unfolding turned
+each-turn = record {
+  turns = λ file number p f reply room. record {
+    all-taken = λ q. rw q;
+    took = λ start end ss q. rw (q, overlay-front, overlay-front);
+  };
+  rooms = (refl, refl);
+  of-left = λ t f reply room. refl;
+}
 
 -- ---- the text of an answer
 

@@ -101,6 +101,11 @@ pub record Parts : Type 0 where
       → recordTexts file b number (s ∷ ss) ≡ recordText number (asked file s b) ∷ recordTexts file (next b (asked file s b)) (suc number) ss
   pub asks : (file : List ℕ) (s : Span) (b : Board) → asked file s b ≡ answer b (take (s .end - s .start) (drop (s .start) file))
   pub all : (file : List ℕ) → pieces file ≡ firstText file ∷ recordTexts file (startBoard file) 1 (recordsOf file)
+  -- one piece after another, and nothing between them or behind them
+  pub in-a-row : (file : List ℕ) → written file ≡ inARow (pieces file)
+  pub piece-and-rest : (x : List ℕ) (xs : List (List ℕ)) → inARow (x ∷ xs) ≡ x ++ inARow xs
+  pub no-piece : inARow [] ≡ []
+  pub no-record : (file : List ℕ) (b : Board) (number : ℕ) → recordTexts file b number [] ≡ []
   pub first : (file : List ℕ) → length file ≤ 1048576 → firstText file ≡ ascii "records " ++ decimal (recordCount file) ++ ascii "\n"
 
 -- ---- examples: SSB as delivered is FCh, and FFh after a full chip erase

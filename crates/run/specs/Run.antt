@@ -1,4 +1,4 @@
--- How the program runs a job, request by request. Assumes nothing: these are definitions.
+-- How the program runs a job, request by request. Assumes nothing: these are definitions and a statement.
 use mathlib.Core.Path.{_≡_}
 use mathlib.Core.List.{List}
 use Prim.Native.Nat.{ℕ, suc, _+_, _*_, _≤_}
@@ -26,6 +26,10 @@ mostRequests = 1490
 -- room for every job: the line that states the count, and the lines of its requests
 abbrev pub mostOutput : ℕ
 mostOutput = mostJobLine + mostLine * mostRequests
+
+-- the same in numbers: 25 bytes for `job N`, 2,139 for each line
+abbrev pub RoomSaid : Type 0
+RoomSaid = mostOutput ≡ 25 + 2139 * 1490
 
 -- a request's value lies in the file and has its setup
 pub record Placed (file : List ℕ) (start size : ℕ) : Type 0 where
