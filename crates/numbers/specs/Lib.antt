@@ -2,3 +2,4 @@
 pub mod Layout
 pub mod Unpacked
 pub mod Tables
+pub mod Packing

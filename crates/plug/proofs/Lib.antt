@@ -2,6 +2,7 @@
 pub mod AnswerLaws
 pub mod ChipLaws
 pub mod Shape
+pub mod NamedHolds
 pub mod HandedHolds
 pub mod OrderHolds
 pub mod RowsHold

@@ -6,6 +6,7 @@ pub mod Commands
 pub mod Answers
 pub mod Step
 pub mod Answered
+pub mod Named
 pub mod Handed
 pub mod Order
 pub mod Rows

@@ -1,2 +1,3 @@
--- That the tables' functions have one permitted answer each.
+-- The statement of specs/Form.antt, and that the functions of the tables have one permitted answer each.
+pub mod FormLaws
 pub mod OneAnswer

@@ -6,12 +6,13 @@ use mathlib.Core.List.{List, _++_}
 use Prim.Native.Nat.{ℕ, _+_, _-_, _*_, _%_, _≤_, _<_}
 use native.Mathlib.Nat.{zero-add}
 use native.Mathlib.Omega.{arith}
+use lib.Dec.{eqb}
 use lib.ListN.{length, drop, length-drop}
 use lib.Seq.{getD-drop}
-use borrow.Author.Tests.{eq-eqb, ne-eqb, le-leb, lt-leb, le-ltb, lt-ltb}
+use borrow.Author.Tests.{eq-eqb, ne-eqb, eqb-true, not-false, le-leb, lt-leb, le-ltb, lt-ltb}
 use Rattle.words.specs.Words.{byteAt}
 use Rattle.words.proofs.WordsLaws.{overlay-front}
-use Rattle.record.specs.Digits.{digitValue, isDigit}
+use Rattle.record.specs.Digits.{noDigit, digitValue, isDigit}
 use Rattle.record.specs.Record.{recordMark, characterCount, mostData, sum, recordOf, bytesOf, dataOf}
 use Rattle.record.specs.Reader.{Fields, Taken, WrongChecksum, Refused, lengthField, wellFormed, reading, readRecord, roomRead}
 use Rattle.record.specs.Writer.{Wrote, Unwritten, writeRecord, roomWritten}
@@ -45,6 +46,31 @@ module _ (c : ℕ) where
     lt-leb c 70 (omega arith),
     le-leb 97 c (omega arith),
     lt-leb c 102 h,
+  )
+
+  -- ---- a character that is in one of them: its value is below 16, and 255 is no digit's
+
+  marked : isDigit c ≡ false → digitValue c ≡ 0xFF
+  marked h = eqb-true (digitValue c) noDigit (not-false (eqb (digitValue c) noDigit) h)
+
+  is-digit : 0x30 ≤ c → c ≤ 0x39 → isDigit c ≡ true
+  unfolding digitValue
+  is-digit h l = rw (le-leb 48 c h, le-leb c 57 l, ne-eqb (c - 48) noDigit (λ z. omega arith))
+
+  is-letter : 0x41 ≤ c → c ≤ 0x46 → isDigit c ≡ true
+  unfolding digitValue
+  is-letter h l = rw (le-leb 48 c (omega arith), lt-leb c 57 (omega arith), le-leb 65 c h, le-leb c 70 l, ne-eqb (c - 55) noDigit (λ z. omega arith))
+
+  is-small : 0x61 ≤ c → c ≤ 0x66 → isDigit c ≡ true
+  unfolding digitValue
+  is-small h l = rw (
+    le-leb 48 c (omega arith),
+    lt-leb c 57 (omega arith),
+    le-leb 65 c (omega arith),
+    lt-leb c 70 (omega arith),
+    le-leb 97 c h,
+    le-leb c 102 l,
+    ne-eqb (c - 87) noDigit (λ z. omega arith),
   )
 
 -- ---- the reader, in every room
@@ -120,7 +146,14 @@ frames = record {
   digits = refl;
   letters = refl;
   small-letters = refl;
+  are-digits = is-digit;
+  are-letters = is-letter;
+  are-small = is-small;
   all-characters = refl;
+  no-digit-is = refl;
+  entry = λ f i n. refl;
+  no-entry = λ f i. refl;
+  marked = marked;
   none-below = below;
   none-to-letters = to-letters;
   none-to-small = to-small;
@@ -139,6 +172,7 @@ frames = record {
   byte-more = refl;
   wrong-sum = refl;
   all-right = λ cs m d l. rw (eq-eqb (byteAt cs 0) recordMark m, d) (eq-eqb (length cs) (characterCount (lengthField cs)) (omega (arith, l)));
+  no-more-digits = refl;
   digits-on = λ c cs h. rw h;
   bad-mark = wrong-mark;
   bad-digit = bad-digit;

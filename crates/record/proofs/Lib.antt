@@ -7,3 +7,4 @@ pub mod HexLaws
 pub mod RoundTripHolds
 pub mod PaperRecords
 pub mod FramesHold
+pub mod FrameBytesHold

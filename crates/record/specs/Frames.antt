@@ -3,11 +3,11 @@
 use mathlib.Core.Path.{_≡_}
 use mathlib.Core.Bool.{true, false}
 use mathlib.Core.List.{List, [], _∷_, _++_}
-use Prim.Native.Nat.{ℕ, _+_, _*_, _%_, _≤_, _<_}
+use Prim.Native.Nat.{ℕ, suc, _+_, _*_, _%_, _≤_, _<_}
 use lib.ListN.{length, drop}
 use Rattle.words.specs.Words.{byteAt}
 use Rattle.lines.specs.Text.{ascii}
-use Rattle.record.specs.Digits.{digitValue, isDigit, allDigits, characters, tabled}
+use Rattle.record.specs.Digits.{noDigit, digitValue, isDigit, allDigits, characters, tabled}
 use Rattle.record.specs.Record.{sum, bytesOf, recordOf, dataOf}
 use Rattle.record.specs.Reader.{Fields, Taken, WrongChecksum, Refused, lengthField, wellFormed, reading, readRecord, roomRead, readingNumber}
 use Rattle.record.specs.Writer.{Wrote, Unwritten, writeRecord, roomWritten, writtenNumber, writtenCount}
@@ -25,8 +25,15 @@ pub record Frames : Type 0 where
   pub digits : tabled digitValue 0x30 10 ≡ 0 ∷ 1 ∷ 2 ∷ 3 ∷ 4 ∷ 5 ∷ 6 ∷ 7 ∷ 8 ∷ 9 ∷ []
   pub letters : tabled digitValue 0x41 6 ≡ 10 ∷ 11 ∷ 12 ∷ 13 ∷ 14 ∷ 15 ∷ []
   pub small-letters : tabled digitValue 0x61 6 ≡ 10 ∷ 11 ∷ 12 ∷ 13 ∷ 14 ∷ 15 ∷ []
-  -- "array of 256 bytes": every character has its entry; and no other is a digit
+  pub are-digits : (c : ℕ) → 0x30 ≤ c → c ≤ 0x39 → isDigit c ≡ true
+  pub are-letters : (c : ℕ) → 0x41 ≤ c → c ≤ 0x46 → isDigit c ≡ true
+  pub are-small : (c : ℕ) → 0x61 ≤ c → c ≤ 0x66 → isDigit c ≡ true
+  -- "array of 256 bytes": every character has its entry, one after another; and no other is a digit
   pub all-characters : characters ≡ 256
+  pub no-digit-is : noDigit ≡ 0xFF
+  pub entry : (f : ℕ → ℕ) (i n : ℕ) → tabled f i (suc n) ≡ f i ∷ tabled f (suc i) n
+  pub no-entry : (f : ℕ → ℕ) (i : ℕ) → tabled f i 0 ≡ []
+  pub marked : (c : ℕ) → isDigit c ≡ false → digitValue c ≡ 0xFF
   pub none-below : (c : ℕ) → c < 0x30 → isDigit c ≡ false
   pub none-to-letters : (c : ℕ) → 0x39 < c → c < 0x41 → isDigit c ≡ false
   pub none-to-small : (c : ℕ) → 0x46 < c → c < 0x61 → isDigit c ≡ false
@@ -51,6 +58,7 @@ pub record Frames : Type 0 where
   pub wrong-sum : reading (ascii ":0312340506AB55AD") ≡ WrongChecksum
   -- of every record: its first character is no mark, one after it is no digit, or there are not two for each byte and one
   pub all-right : (cs : List ℕ) → byteAt cs 0 ≡ 0x3A → allDigits (drop 1 cs) ≡ true → length cs ≡ 11 + 2 * lengthField cs → wellFormed cs ≡ true
+  pub no-more-digits : allDigits [] ≡ true
   pub digits-on : (c : ℕ) (cs : List ℕ) → isDigit c ≡ true → allDigits (c ∷ cs) ≡ allDigits cs
   pub bad-mark : (cs : List ℕ) → (byteAt cs 0 ≡ 0x3A → ⊥) → wellFormed cs ≡ false
   pub bad-digit : (cs : List ℕ) (i : ℕ) → 1 ≤ i → i < length cs → isDigit (byteAt cs i) ≡ false → wellFormed cs ≡ false

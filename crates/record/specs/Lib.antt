@@ -5,3 +5,4 @@ pub mod Reader
 pub mod Writer
 pub mod RoundTrip
 pub mod Frames
+pub mod FrameBytes

@@ -32,6 +32,7 @@ displayed c a e f =
 
 -- the same in numbers, of every room, flash and range
 pub record RepliesTold : Type 0 where
+  pub quiet : (c : Config) (o : Outcome) → quietAnswer c o ≡ record { outcome = o; config = c; length = 0; pages = 0 }
   pub done : (room : List ℕ) (c : Config) (n : ℕ) → 3 ≤ length room
       → doneIn room c n ≡ record { outcome = Answered; config = c; length = 3; pages = n }
   pub no-room : (room : List ℕ) (c : Config) (n : ℕ) → length room < 3
