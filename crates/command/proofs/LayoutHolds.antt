@@ -16,7 +16,7 @@ use Rattle.command.specs.Transfer.{Of, NoTransfer, padding, bodyPlace, s
 use Rattle.command.specs.Reader.{readCommand}
 use Rattle.command.specs.Ranges.{AddressRight}
 use Rattle.command.specs.Layout.{Programs, flash, eeprom, Laid, Found, CarriesNone, Layout, ReaderOrder}
-use Rattle.command.proofs.RangesHold.{addresses-told}
+use Rattle.command.proofs.RangesHold.{address-told}
 use Rattle.command.proofs.TransferLaws.{right-length}
 
 module _ (a e : ℕ) (command pad new suffix : List ℕ) (laid : Laid a e command pad new suffix) where
@@ -60,46 +60,52 @@ transfer-told _ _ _ (eeprom a e) = refl
 whole-told : (k : Command) (a e n : ℕ) → Programs k a e → a + n ≡ e + 1 → (d : List ℕ) → badLength k d ≡ false → length d ≡ 48 + a % 32 + n
 whole-told k a e n p h d q = right-length (padding a) (count a e) d (rw (transfer-told k a e p) at q) ∙ omega arith
 
+no-transfer : (k : Command) → ((a e : ℕ) → Programs k a e → ⊥) → transferOf k ≡ NoTransfer
+no-transfer (ProgramFlash a e) h = absurd (h (a .0) (e .0) (flash a e))
+no-transfer (ProgramEeprom a e) h = absurd (h (a .0) (e .0) (eeprom a e))
+no-transfer (Read r) h = refl
+no-transfer (BlankCheck a e) h = refl
+no-transfer (EraseBlock k) h = refl
+no-transfer EraseChip h = refl
+no-transfer (WriteByte i v) h = refl
+no-transfer (WriteHsb v) h = refl
+no-transfer StartReset h = refl
+no-transfer (StartAt a) h = refl
+no-transfer ReadVersion h = refl
+no-transfer (ReadByte i) h = refl
+no-transfer ReadHsb h = refl
+
 none-carried : (k : Command) (d : List ℕ) → transferOf k ≡ NoTransfer → CarriesNone k d
 none-carried k d q = record { right-length = rw q; body-place = rw q; suffix-place = rw q }
-
-no-transfer : (k : Command) → ((a e : ℕ) → Programs k a e → ⊥) → (d : List ℕ) → CarriesNone k d
-no-transfer (ProgramFlash a e) h d = absurd (h (a .0) (e .0) (flash a e))
-no-transfer (ProgramEeprom a e) h d = absurd (h (a .0) (e .0) (eeprom a e))
-no-transfer (Read r) h d = none-carried (Read r) d refl
-no-transfer (BlankCheck a e) h d = none-carried (BlankCheck a e) d refl
-no-transfer (EraseBlock k) h d = none-carried (EraseBlock k) d refl
-no-transfer EraseChip h d = none-carried EraseChip d refl
-no-transfer (WriteByte i v) h d = none-carried (WriteByte i v) d refl
-no-transfer (WriteHsb v) h d = none-carried (WriteHsb v) d refl
-no-transfer StartReset h d = none-carried StartReset d refl
-no-transfer (StartAt a) h d = none-carried (StartAt a) d refl
-no-transfer ReadVersion h d = none-carried ReadVersion d refl
-no-transfer (ReadByte i) h d = none-carried (ReadByte i) d refl
-no-transfer ReadHsb h d = none-carried ReadHsb d refl
 
 pub layout : Layout
 layout = record {
   command-size = refl;
   suffix-size = refl;
+  pad-size = λ a. refl;
+  behind-pad = λ x. refl;
   found = λ k a e p command pad new suffix l. found-by a e command pad new suffix l k (transfer-told k a e p);
   whole = whole-told;
-  no-transfer = no-transfer;
+  transfer = transfer-told;
+  none = no-transfer;
+  no-transfer = λ k h d. none-carried k d (no-transfer k h);
 }
 
 -- ---- the reader's order
 
 address-bad : (k : Command) → (AddressRight k → ⊥) → (t : Bool) → badAddress k ≡ t → t ≡ true
 address-bad k h true q = refl
-address-bad k h false q = absurd (h (addresses-told k .told q))
+address-bad k h false q = absurd (h (address-told k .told q))
 
 pub reader-order : ReaderOrder
 unfolding readCommand
 reader-order = record {
   unlisted = λ d f. rw f;
   bad-address = λ d k f h. rw (f, address-bad k h (badAddress k) refl);
-  bad-length = λ d k f a l. rw (f, addresses-told k .passes a, l);
-  taken = λ d k f a l. rw (f, addresses-told k .passes a, l);
+  bad-length = λ d k f a l. rw (f, address-told k .passes a, l);
+  taken = λ d k f a l. rw (f, address-told k .passes a, l);
+  form-told = λ k. refl;
+  form-untold = refl;
   taken-00h = λ k p. refl;
   stall-0fh = refl;
   address-08h = refl;

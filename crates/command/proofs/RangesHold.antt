@@ -11,10 +11,10 @@ use Rattle.words.proofs.WordsLaws.{or-false}
 use Rattle.memory.specs.declared.address.FlashAddress.{FlashAddress}
 use Rattle.memory.specs.declared.address.Range.{Range}
 use Rattle.memory.specs.declared.address.Range.the-variants.{Flash, Eeprom}
-use Rattle.command.specs.Form.{ProgramFlash, ProgramEeprom, Read, BlankCheck, EraseBlock, EraseChip, WriteByte, WriteHsb, StartReset, StartAt}
+use Rattle.command.specs.Form.{Command, ProgramFlash, ProgramEeprom, Read, BlankCheck, EraseBlock, EraseChip, WriteByte, WriteHsb, StartReset, StartAt}
 use Rattle.command.specs.Form.{ReadVersion, ReadByte, ReadHsb}
-use Rattle.command.specs.Address.{badEnds, badRange, badCheck, pastFlash}
-use Rattle.command.specs.Ranges.{Fits, RangeRight, Unless, AddressesTold}
+use Rattle.command.specs.Address.{badAddress, badEnds, badRange, badCheck, pastFlash}
+use Rattle.command.specs.Ranges.{Fits, RangeRight, AddressRight, Unless, AddressesTold}
 use Rattle.command.proofs.AddressLaws.{badEnds-good}
 
 fits-told : (last a e : ℕ) → Unless (badEnds (last + 1) a e) (Fits last a e)
@@ -48,17 +48,20 @@ check-told a e = record {
 free : Unless false (Unit {0})
 free = record { told = λ q. tt; passes = λ t. refl }
 
+pub address-told : (k : Command) → Unless (badAddress k) (AddressRight k)
+address-told (ProgramFlash a e) = fits-told 0x7FFF (a .0) (e .0)
+address-told (ProgramEeprom a e) = fits-told 0x03FF (a .0) (e .0)
+address-told (Read r) = range-told r
+address-told (BlankCheck a e) = check-told a e
+address-told (EraseBlock k) = free
+address-told EraseChip = free
+address-told (WriteByte i v) = free
+address-told (WriteHsb v) = free
+address-told StartReset = free
+address-told (StartAt a) = inside-told a
+address-told ReadVersion = free
+address-told (ReadByte i) = free
+address-told ReadHsb = free
+
 pub addresses-told : AddressesTold
-addresses-told (ProgramFlash a e) = fits-told 0x7FFF (a .0) (e .0)
-addresses-told (ProgramEeprom a e) = fits-told 0x03FF (a .0) (e .0)
-addresses-told (Read r) = range-told r
-addresses-told (BlankCheck a e) = check-told a e
-addresses-told (EraseBlock k) = free
-addresses-told EraseChip = free
-addresses-told (WriteByte i v) = free
-addresses-told (WriteHsb v) = free
-addresses-told StartReset = free
-addresses-told (StartAt a) = inside-told a
-addresses-told ReadVersion = free
-addresses-told (ReadByte i) = free
-addresses-told ReadHsb = free
+addresses-told = record { commands = address-told; ranges = range-told; addresses = inside-told }

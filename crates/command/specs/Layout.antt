@@ -5,10 +5,11 @@ use mathlib.Core.List.{List, _++_}
 use mathlib.Core.Option.{none, some}
 use Prim.Native.Nat.{ℕ, _+_, _%_}
 use lib.ListN.{length}
+use Rattle.words.specs.Words.{count}
 use Rattle.memory.specs.declared.address.FlashAddress.{FlashAddress}
 use Rattle.memory.specs.declared.address.EepromAddress.{EepromAddress}
-use Rattle.command.specs.Form.{form, Command, ProgramFlash, ProgramEeprom}
-use Rattle.command.specs.Transfer.{fillerSize, suffixSize, bodyOf, suffixOf, badLength}
+use Rattle.command.specs.Form.{form, Is, Unlisted, formOf, Command, ProgramFlash, ProgramEeprom}
+use Rattle.command.specs.Transfer.{Of, NoTransfer, fillerSize, suffixSize, padding, bodyPlace, transferOf, bodyOf, suffixOf, badLength}
 use Rattle.command.specs.Reader.{Parts, Taken, Stalls, BadAddress, partsOf, readCommand, readingStatus}
 use Rattle.command.specs.Ranges.{AddressRight}
 
@@ -42,10 +43,15 @@ pub record Layout : Type 0 where
   -- "32 bytes of command (26 not looked at)", "16 suffix bytes": the sizes that the writer goes by
   pub command-size : 6 + fillerSize ≡ 32
   pub suffix-size : suffixSize ≡ 16
+  pub pad-size : (a : ℕ) → padding a ≡ a % 32
+  pub behind-pad : (x : ℕ) → bodyPlace x ≡ 32 + x
   pub found : (k : Command) (a e : ℕ) → Programs k a e → (command pad new suffix : List ℕ) → Laid a e command pad new suffix
       → Found k a e command pad new suffix
   -- "48 + X + n": no other length is right
   pub whole : (k : Command) (a e n : ℕ) → Programs k a e → a + n ≡ e + 1 → (d : List ℕ) → badLength k d ≡ false → length d ≡ 48 + a % 32 + n
+  -- X and n of a command that programs
+  pub transfer : (k : Command) (a e : ℕ) → Programs k a e → transferOf k ≡ Of (a % 32) (count a e)
+  pub none : (k : Command) → ((a e : ℕ) → Programs k a e → ⊥) → transferOf k ≡ NoTransfer
   -- no other command has bytes, a suffix or a whole length
   pub no-transfer : (k : Command) → ((a e : ℕ) → Programs k a e → ⊥) → (d : List ℕ) → CarriesNone k d
 
@@ -56,6 +62,9 @@ pub record ReaderOrder : Type 0 where
   pub bad-address : (d : List ℕ) (k : Command) → form d ≡ some k → (AddressRight k → ⊥) → readCommand d ≡ BadAddress
   pub bad-length : (d : List ℕ) (k : Command) → form d ≡ some k → AddressRight k → badLength k d ≡ true → readCommand d ≡ Stalls
   pub taken : (d : List ℕ) (k : Command) → form d ≡ some k → AddressRight k → badLength k d ≡ false → readCommand d ≡ Taken k (partsOf k d)
+  -- the form as the code tells it
+  pub form-told : (k : Command) → formOf (some k) ≡ Is k
+  pub form-untold : formOf none ≡ Unlisted
   -- "status 00h", "stall", "08h"
   pub taken-00h : (k : Command) (p : Parts) → readingStatus (Taken k p) ≡ 0x00
   pub stall-0fh : readingStatus Stalls ≡ 0x0F

@@ -3,11 +3,12 @@
 use mathlib.Core.Path.{_≡_}
 use mathlib.Core.Bool.{Bool, false}
 use Prim.Native.Nat.{ℕ, _+_, _≤_, _<_}
+use Rattle.memory.specs.declared.address.FlashAddress.{FlashAddress}
 use Rattle.memory.specs.declared.address.Range.{Range}
 use Rattle.memory.specs.declared.address.Range.the-variants.{Flash, Eeprom}
 use Rattle.command.specs.Form.{Command, ProgramFlash, ProgramEeprom, Read, BlankCheck, EraseBlock, EraseChip, WriteByte, WriteHsb}
 use Rattle.command.specs.Form.{StartReset, StartAt, ReadVersion, ReadByte, ReadHsb}
-use Rattle.command.specs.Address.{badAddress}
+use Rattle.command.specs.Address.{badAddress, badRange, pastFlash}
 
 -- the addresses a to e of a memory with this last address, neither "backward" nor "outside" nor "over 1,024 bytes"
 pub record Fits (last a e : ℕ) : Type 0 where
@@ -40,5 +41,7 @@ pub record Unless (bad : Bool) (right : Type 0) : Type 0 where
   pub told : bad ≡ false → right
   pub passes : right → bad ≡ false
 
-abbrev pub AddressesTold : Type 0
-AddressesTold = (k : Command) → Unless (badAddress k) (AddressRight k)
+pub record AddressesTold : Type 0 where
+  pub commands : (k : Command) → Unless (badAddress k) (AddressRight k)
+  pub ranges : (r : Range) → Unless (badRange r) (RangeRight r)
+  pub addresses : (a : FlashAddress) → Unless (pastFlash a) (a .0 ≤ 0x7FFF)

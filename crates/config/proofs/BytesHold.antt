@@ -1,8 +1,10 @@
 -- The sentences of specs/Bytes.antt hold; but for the indexes that no byte has and for HSB each is computed.
 -- Assumes nothing.
 use mathlib.Core.Path.{_≡_, refl, ap}
+use mathlib.Core.Bool.{or-true}
 use Prim.Native.Nat.{ℕ, _<_}
 use native.Mathlib.Omega.{arith}
+use lib.Dec.{leb}
 use borrow.Author.Tests.{ne-eqb, le-leb, lt-leb}
 use Rattle.config.specs.Config.{Config, lastIndex, byteRead, withByte}
 use Rattle.config.specs.Bytes.{config, Bytes}
@@ -35,6 +37,9 @@ bytes = record {
   read-family = λ c. refl;
   read-product = λ c. refl;
   read-revision = λ c. refl;
+  readable-00h-06h = λ i h. rw (le-leb i lastIndex h);
+  readable-fixed = λ i q. rw q (or-true (leb i lastIndex));
+  not-readable = λ i h q. rw (lt-leb i lastIndex h, q);
   no-other-read = λ i c h q. rw (lt-leb i lastIndex h, q);
   version-12h = refl;
   write-bsb = λ x b v p1 p3 p4 s e h. refl;

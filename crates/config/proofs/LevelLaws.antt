@@ -1,6 +1,6 @@
 -- Laws of the level of security: each SSB has the level that the papers give it.
 -- Assumes nothing.
-use mathlib.Core.Path.{_≡_, ap}
+use mathlib.Core.Path.{_≡_, refl, ap}
 use Prim.Native.Nat.{ℕ}
 use borrow.Author.Tests.{ne-eqb}
 use Rattle.config.specs.Config.{Config}
@@ -31,4 +31,5 @@ levels-numbered = record {
   ffh = λ c e. ap levelNumber (ffh-is-level-0 c e);
   feh = λ c e. ap levelNumber (feh-is-level-1 c e);
   other = λ c n m. ap levelNumber (other-is-level-2 c n m);
+  of-the-byte = λ c. refl;
 }

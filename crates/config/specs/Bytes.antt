@@ -4,7 +4,7 @@ use mathlib.Core.Bool.{true, false}
 use mathlib.Core.List.{[], _∷_}
 use Prim.Native.Nat.{ℕ, _+_, _*_, _≤_, _<_}
 use Rattle.words.specs.Words.{among}
-use Rattle.config.specs.Config.{Config, deliveredConfig, ssbIndex, writable, version, Value, Unknown, byteRead, withByte, withHsb, erasedConfig}
+use Rattle.config.specs.Config.{Config, deliveredConfig, ssbIndex, writable, readable, version, Value, Unknown, byteRead, withByte, withHsb, erasedConfig}
 
 -- BSB, SBV, P1_CF, P3_CF, P4_CF, SSB, EB and HSB
 abbrev pub config : ℕ → ℕ → ℕ → ℕ → ℕ → ℕ → ℕ → ℕ → Config
@@ -34,6 +34,9 @@ pub record Bytes : Type 0 where
   pub read-family : Reads 0x31 (λ c. 0xD7)
   pub read-product : Reads 0x60 (λ c. 0xF7)
   pub read-revision : Reads 0x61 (λ c. 0xDF)
+  pub readable-00h-06h : (i : ℕ) → i ≤ 0x06 → readable i ≡ true
+  pub readable-fixed : (i : ℕ) → among i (0x30 ∷ 0x31 ∷ 0x60 ∷ 0x61 ∷ []) ≡ true → readable i ≡ true
+  pub not-readable : (i : ℕ) → 0x06 < i → among i (0x30 ∷ 0x31 ∷ 0x60 ∷ 0x61 ∷ []) ≡ false → readable i ≡ false
   pub no-other-read : (i : ℕ) (c : Config) → 0x06 < i → among i (0x30 ∷ 0x31 ∷ 0x60 ∷ 0x61 ∷ []) ≡ false → byteRead i c ≡ Unknown
   -- "bootloader version 12h"
   pub version-12h : version ≡ 0x12

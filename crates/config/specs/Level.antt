@@ -27,3 +27,5 @@ pub record LevelsNumbered : Type 0 where
   pub ffh : (c : Config) → c .ssb ≡ 0xFF → levelNumber (level c) ≡ 0
   pub feh : (c : Config) → c .ssb ≡ 0xFE → levelNumber (level c) ≡ 1
   pub other : (c : Config) → (c .ssb ≡ 0xFF → ⊥) → (c .ssb ≡ 0xFE → ⊥) → levelNumber (level c) ≡ 2
+  -- a board has the level of its byte
+  pub of-the-byte : (c : Config) → level c ≡ ssbLevel (c .ssb)

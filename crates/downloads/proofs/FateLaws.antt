@@ -3,7 +3,7 @@
 use mathlib.Core.Path.{_≡_, refl, sym, ap, _∙_, subst}
 use mathlib.Core.Bool.{Bool, true, false}
 use mathlib.Core.List.{List, []}
-use mathlib.Core.Option.{none, some}
+use mathlib.Core.Option.{Option, none, some}
 use Prim.Native.Nat.{ℕ}
 use Rattle.words.specs.Words.{if_then_else_}
 use Rattle.config.specs.Level.{level}
@@ -18,11 +18,11 @@ use Rattle.rules.specs.declared.session.Pending.the-variants.{Nothing}
 use Rattle.rules.specs.declared.answer.Answer.{Answer}
 use Rattle.rules.specs.declared.answer.Outcome.the-variants.{Done}
 use Rattle.rules.specs.Levels.{levelStatus}
-use Rattle.rules.specs.Result.{Board, board, answer, reply}
+use Rattle.rules.specs.Result.{Board, board, next, answer, reply}
 use Rattle.rules.specs.Commands.{Effect, stall, setStatus, accept, perform, forbidden, obey, obeyForm}
 use Rattle.rules.specs.Answered.{bare, Answered}
 use Rattle.fates.specs.Fate.{Fate, Taken, Sets, Stops, fate, fateOf, sized, sizedFate}
-use Rattle.fates.specs.Obeyed.{Fated}
+use Rattle.fates.specs.Obeyed.{flashAfter, eepromAfter, Fated}
 use Rattle.fates.specs.declared.fate.Obeyed.{Obeyed}
 use Rattle.fates.specs.declared.fate.Obeyed.the-variants as O
 use Rattle.fates.proofs.FateLaws.{fate-session}
@@ -37,11 +37,36 @@ tests b k false true w x y z = refl
 tests b k false false true x y z = refl
 tests b k false false false x y z = refl
 
-pub obeys : FatesObeyed
+obeys : (b : Board) (o : Option Command) (d : List ℕ) → resultOf b (fateOf b o d) ≡ obeyForm b o d
 unfolding fate obey
 obeys b none d = refl
 obeys b (some k) d =
     tests b k (forbidden b k) (badAddress k) (badLength k d) (levelStatus k (level (b .config))) badAddressStatus (perform b k d)
+
+-- the memories after a fate are those after its result
+module _ (b : Board) where
+  flash-after : (x : Fate) → flashAfter x (b .flash) ≡ next b (resultOf b x) .flash
+  unfolding stall
+  flash-after (Taken k x) = refl
+  flash-after (Sets s) = refl
+  flash-after Stops = refl
+
+  eeprom-after : (x : Fate) → eepromAfter x (b .eeprom) ≡ next b (resultOf b x) .eeprom
+  unfolding stall
+  eeprom-after (Taken k x) = refl
+  eeprom-after (Sets s) = refl
+  eeprom-after Stops = refl
+
+pub fates-obeyed : FatesObeyed
+fates-obeyed = record {
+  result = obeys;
+  flash = λ b o d. flash-after b (fateOf b o d) ∙ ap (λ r. next b r .flash) (obeys b o d);
+  eeprom = λ b o d. eeprom-after b (fateOf b o d) ∙ ap (λ r. next b r .eeprom) (obeys b o d);
+  said = λ b x o f e h. (h .told, h .flash, h .eeprom);
+  taken = λ b k x. refl;
+  status = λ s. refl;
+  stalled = refl;
+}
 
 by-size : (b : Board) (t : Bool) (d : List ℕ) → resultOf b (if t then fateOf b (form d) d else Stops) ≡ (if t then obeyForm b (form d) d else stall b)
 by-size b true d = obeys b (form d) d

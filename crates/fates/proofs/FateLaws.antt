@@ -29,7 +29,7 @@ use Rattle.rules.specs.Levels.{levelStatus}
 use Rattle.rules.specs.Result.{Board, board}
 use Rattle.rules.specs.Commands.{perform, accept}
 use Rattle.rules.specs.Answered.{Answered, Sizes, Acceptable}
-use Rattle.fates.specs.Fate.{Fate, Stops, fate, fateOf, sizedFate}
+use Rattle.fates.specs.Fate.{Fate, Stops, fate, fateOf, sized, sizedFate, SizedFates}
 use Rattle.fates.specs.Obeyed.{Fated, Judged}
 use Rattle.fates.specs.declared.fate.Obeyed.the-variants as O
 
@@ -99,10 +99,20 @@ acceptable k x p d f e h q =
     (record { sizes = h .sizes; formed = of .0; address-right = w .0; length-right = w .1 }, w .2)
 
 -- memories of their sizes, and others
+module _ (b : Board) where
+  pub sized-yes : Sizes (b .flash) (b .eeprom) → sized b ≡ true
+  sized-yes s = rw (eq-eqb (length (b .flash)) flashSize (s .flash-size), eq-eqb (length (b .eeprom)) eepromSize (s .eeprom-size))
+
+  pub sized-flash : (length (b .flash) ≡ flashSize → ⊥) → sized b ≡ false
+  sized-flash h = rw (ne-eqb (length (b .flash)) flashSize h)
+
+  pub sized-eeprom : (length (b .eeprom) ≡ eepromSize → ⊥) → sized b ≡ false
+  sized-eeprom h = rw (ne-eqb (length (b .eeprom)) eepromSize h, and-false (eqb (length (b .flash)) flashSize))
+
 module _ (b : Board) (d : List ℕ) where
   sized-fate : Sizes (b .flash) (b .eeprom) → sizedFate b d ≡ fateOf b (form d) d
   unfolding sizedFate
-  sized-fate s = rw (eq-eqb (length (b .flash)) flashSize (s .flash-size), eq-eqb (length (b .eeprom)) eepromSize (s .eeprom-size))
+  sized-fate s = rw (sized-yes b s)
 
   pub listed : Sizes (b .flash) (b .eeprom) → (k : Command) (x : Fit) → judgement d ≡ Is k x → sizedFate b d ≡ fate b k d
   listed s k x q = sized-fate s ∙ ap (λ o. fateOf b o d) (judged-is d k x q .0)
@@ -112,11 +122,18 @@ module _ (b : Board) (d : List ℕ) where
 
   pub other-flash : (length (b .flash) ≡ flashSize → ⊥) → sizedFate b d ≡ Stops
   unfolding sizedFate
-  other-flash h = rw (ne-eqb (length (b .flash)) flashSize h)
+  other-flash h = rw (sized-flash b h)
 
   pub other-eeprom : (length (b .eeprom) ≡ eepromSize → ⊥) → sizedFate b d ≡ Stops
   unfolding sizedFate
-  other-eeprom h = rw (ne-eqb (length (b .eeprom)) eepromSize h, and-false (eqb (length (b .flash)) flashSize))
+  other-eeprom h = rw (sized-eeprom b h)
+
+pub sized-fates : SizedFates
+sized-fates = record {
+  of-its-sizes = λ b d f e. sized-fate b d (record { flash-size = f; eeprom-size = e });
+  other-flash = other-flash;
+  other-eeprom = other-eeprom;
+}
 
 pub stops : (b : Board) (x : Fate) → x ≡ Stops → Fated b x O.Stops (b .flash) (b .eeprom)
 stops b x q = rw q (record { told = refl; flash = refl; eeprom = refl })

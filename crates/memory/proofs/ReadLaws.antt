@@ -8,12 +8,12 @@ use Prim.Native.Nat.{ℕ, _<_}
 use native.Mathlib.Nat.{zero-add}
 use native.Mathlib.Omega.{arith}
 use lib.Dec.{leb, ltb}
-use lib.ListN.{length, drop, getD, length-drop}
+use lib.ListN.{length, drop, getD, length-drop, length-replicate, getD-replicate}
 use lib.Seq.{length-take-le, getD-take, getD-drop}
 use borrow.Author.Tests.{le-leb, lt-ltb, leb-true, ltb-true}
 use Rattle.words.specs.Words.{if_then_else_, count, part, overlay, Programmed}
 use Rattle.words.proofs.WordsLaws.{overlay-programmed}
-use Rattle.memory.specs.Memory.{BoardSizes}
+use Rattle.memory.specs.Memory.{flashSize, blankFlash, BoardSizes}
 use Rattle.memory.specs.Read.{copyable, copied, bufferAfter, Readable, ReadOrNot, AnySizeRead, OwnSelected, OwnRead}
 
 module _ (a e : ℕ) (m buffer : List ℕ) where
@@ -76,6 +76,7 @@ pub own-read : OwnRead
 own-read = record { of-flash = λ a e f m buffer. (refl, refl); of-eeprom = λ a e f m buffer. (refl, refl) }
 
 pub board-sizes : BoardSizes
+unfolding blankFlash
 board-sizes = record {
   flash-bytes = refl;
   flash-last = refl;
@@ -83,4 +84,7 @@ board-sizes = record {
   eeprom-bytes = refl;
   flash-range = λ a e. (refl, refl);
   eeprom-range = λ a e. (refl, refl);
+  addresses = λ n. (refl, refl, refl);
+  blank-size = length-replicate {A = ℕ} flashSize 0xFF;
+  blank-bytes = λ i h. getD-replicate flashSize i 0xFF 0 h;
 }

@@ -7,16 +7,16 @@ use Prim.Native.Nat.{ℕ, _+_, _-_, _*_, _/_, _%_, _≤_}
 use native.Mathlib.Omega.{arith}
 use lib.Dec.{eqb, leb, ltb}
 use lib.ListN.{length}
-use borrow.Author.Tests.{ne-eqb, eqb-true, leb-true, ltb-true}
+use borrow.Author.Tests.{eq-eqb, ne-eqb, eqb-true, leb-true, ltb-true}
 use Rattle.words.specs.Words.{if_then_else_}
 use Rattle.words.proofs.WordsLaws.{overlay-programmed}
 use Rattle.memory.specs.Memory.{flashSize, flashPages, pageSize, mostFlash}
 use Rattle.memory.specs.Pages.{Store, Rising, pageStore, pagesMet}
 use Rattle.memory.specs.Program.{storable, bytesStores}
 use Rattle.memory.specs.Erase.{erasable, blockErase, chipErase, pagesErase}
-use Rattle.memory.specs.Stored.{FlashStored, Storable, BytesStored, Within, PageStored, Erasable, PagesErased, NotErased}
+use Rattle.memory.specs.Stored.{FlashStored, Storable, BytesStored, Within, PageStored, Erasable, PagesErased, NotErased, RequestsStore}
 use Rattle.memory.proofs.PagesLaws.{length-programStores, rising-programStores, length-pageStore, rising-pageStore, storeAll-pageStore}
-use Rattle.memory.proofs.ProgramLaws.{unfit, flashStores-fit, flashStores-not, both-programmed}
+use Rattle.memory.proofs.ProgramLaws.{fit, programmable-fit, unfit, flashStores-fit, flashStores-not, both-programmed}
 use Rattle.memory.proofs.ProgramLaws.{length-bytesStores, rising-bytesStores, bytesStores-programmed}
 use Rattle.memory.proofs.EraseLaws.{length-pagesErase, rising-pagesErase, pagesErase-programmed}
 
@@ -93,3 +93,18 @@ pages-erased p n m = record {
 pub not-erased : NotErased
 unfolding blockErase chipErase
 not-erased m h k = let wrong = ne-eqb (length m) flashSize h in (rw wrong, rw wrong)
+
+pub requests-store : RequestsStore
+unfolding blockErase chipErase
+requests-store = record {
+  programs = λ a e d m f. sym (flashStores-fit a e d m f);
+  asked = λ size a e d m. (programmable-fit size a e d m, fit size a e d m);
+  erases-block = λ k m h. rw (eq-eqb (length m) flashSize h);
+  erases-chip = λ m h. rw (eq-eqb (length m) flashSize h);
+  pages-met = met;
+  store-first = λ s ss m. refl;
+  no-store = λ m. refl;
+  low = (refl, refl);
+  middle = (refl, refl);
+  high = (refl, refl);
+}

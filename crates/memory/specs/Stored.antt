@@ -1,13 +1,16 @@
 -- What each operation that programs or erases pages of the flash stores, in numbers: which pages, in which order, with which bytes. Proved in
 -- proofs/StoredHolds.antt.
+use mathlib.Core.Logic.{_↔_}
 use mathlib.Core.Path.{_≡_}
-use mathlib.Core.List.{List, []}
+use mathlib.Core.Bool.{true}
+use mathlib.Core.List.{List, [], _∷_}
 use Prim.Native.Nat.{ℕ, _+_, _-_, _*_, _/_, _%_, _≤_, _<_}
 use lib.ListN.{length, replicate}
-use Rattle.words.specs.Words.{Programmed}
+use Rattle.words.specs.Words.{overlay, Programmed}
 use Rattle.memory.specs.Memory.{FlashAddress, Page}
-use Rattle.memory.specs.Pages.{Block, Store, Rising, storeAll, pageStore}
-use Rattle.memory.specs.Program.{Programmable, flashStores, bytesStores}
+use Rattle.memory.specs.Pages.{Block, Low, Middle, High, blockStart, blockFF, blockStores, chipStores}
+use Rattle.memory.specs.Pages.{Store, Rising, storeAll, pageStore, pagesMet, programStores}
+use Rattle.memory.specs.Program.{Programmable, programmable, flashStores, bytesStores}
 use Rattle.memory.specs.Erase.{blockErase, chipErase, pagesErase}
 
 -- where it can be, the bytes d are programmed from place a of the memory m on by stores of so many pages, from the first on; else nothing
@@ -56,3 +59,20 @@ PagesErased = (p : Page) (n : ℕ) (m : List ℕ)
 -- the erases of 01, of a memory that has not the flash's size
 abbrev pub NotErased : Type 0
 NotErased = (m : List ℕ) → (length m ≡ 32768 → ⊥) → (k : Block) → (blockErase k m ≡ []) × (chipErase m ≡ [])
+
+-- ---- as a request has them
+
+-- what the rules say of a request, which has asked for size, range and length before, is what the operations store; and the numbers of pages
+-- and blocks that both go by
+pub record RequestsStore : Type 0 where
+  pub programs : (a e : FlashAddress) (d m : List ℕ) → Programmable 32768 (a .0) (e .0) d m → programStores (a .0) (e .0) d m ≡ flashStores a e d m
+  pub asked : (size a e : ℕ) (d m : List ℕ) → (programmable size a e d m ≡ true) ↔ Programmable size a e d m
+  pub erases-block : (k : Block) (m : List ℕ) → length m ≡ 32768 → blockStores k m ≡ blockErase k m
+  pub erases-chip : (m : List ℕ) → length m ≡ 32768 → chipStores ≡ chipErase m
+  pub pages-met : (a e : ℕ) → a ≤ e → pagesMet a e ≡ e / 128 - a / 128 + 1
+  -- stores are made one after another, each page in its place of 128 bytes
+  pub store-first : (s : Store) (ss : List Store) (m : List ℕ) → storeAll (s ∷ ss) m ≡ storeAll ss (overlay (128 * s .page .0) (s .bytes) m)
+  pub no-store : (m : List ℕ) → storeAll [] m ≡ m
+  pub low : (blockStart Low ≡ 0x0000) × (blockFF Low ≡ replicate 8192 0xFF)
+  pub middle : (blockStart Middle ≡ 0x2000) × (blockFF Middle ≡ replicate 8192 0xFF)
+  pub high : (blockStart High ≡ 0x4000) × (blockFF High ≡ replicate 16384 0xFF)

@@ -48,7 +48,17 @@ by-form (some k) d = tests k (partsOf k d) (badAddress k) (badLength k d)
 
 pub read-judged : ReadAsJudged
 unfolding judgement readCommand
-read-judged d = by-form (form d) d
+read-judged = record {
+  unlisted = λ d q. rw q;
+  listed = λ d k q. rw q;
+  bad-address = λ k l a. rw a;
+  wrong-length = λ k d a l. rw (a, l);
+  fits = λ k d a l. rw (a, l);
+  answered = λ k p. refl;
+  stalled = λ k. refl;
+  told-08h = λ k. refl;
+  read = λ d. by-form (form d) d;
+}
 
 -- what a judgement tells of the form
 is-of : (o : Option Command) (k : Command) (x : Fit) (l : ℕ) → judged o l ≡ Is k x → (o ≡ some k) × (fit k l ≡ x)

@@ -15,14 +15,14 @@ use Rattle.blank.specs.Blank.{usedIn}
 use Rattle.blank.proofs.BlankLaws.{usedIn-some, usedIn-none}
 use Rattle.command.specs.Form.{form}
 use Rattle.command.specs.Address.{badAddress}
-use Rattle.command.proofs.RangesHold.{addresses-told}
+use Rattle.command.proofs.RangesHold.{address-told}
 use Rattle.command.specs.declared.command.Command.{Command}
 use Rattle.command.specs.declared.command.Command.the-variants.{ProgramFlash, ProgramEeprom, Read, BlankCheck, EraseBlock, EraseChip, WriteByte, WriteHsb}
 use Rattle.command.specs.declared.command.Command.the-variants.{StartReset, StartAt, ReadVersion, ReadByte, ReadHsb}
 use Rattle.rules.specs.Session.{OneByte}
 use Rattle.rules.specs.Result.{Board}
 use Rattle.rules.specs.Commands.{perform, blankEffect, obey, obeyForm}
-use Rattle.rules.specs.Accepted.{Order, CommandOrder, Checked, ByteOf, Sets, ByteWritten, HsbWritten, Configures, Accepts, AcceptedSets}
+use Rattle.rules.specs.Accepted.{Order, FormsObeyed, CommandOrder, Checked, ByteOf, Sets, ByteWritten, HsbWritten, Configures, Accepts, AcceptedSets}
 use Rattle.rules.proofs.RefusalOrderHolds.{bad-told}
 use Rattle.rules.proofs.StatesHold.{stall-told}
 use Rattle.rules.proofs.Shape.{Passed, accepted-did}
@@ -36,10 +36,13 @@ module _ (b : Board) (d : List ℕ) where
   order = record {
     unlisted = λ f. rw f (stall-told b);
     forbidden = λ k status f l h. rw (f, l, ne-eqb status 0x00 h);
-    bad-address = λ k f l h. rw (f, l, bad-told (badAddress k) (addresses-told k) h);
-    bad-length = λ k f l a w. rw (f, l, addresses-told k .passes a, w) (stall-told b);
-    accepted = λ k f l a w. rw (f, l, addresses-told k .passes a, w);
+    bad-address = λ k f l h. rw (f, l, bad-told (badAddress k) (address-told k) h);
+    bad-length = λ k f l a w. rw (f, l, address-told k .passes a, w) (stall-told b);
+    accepted = λ k f l a w. rw (f, l, address-told k .passes a, w);
   }
+
+pub forms-obeyed : FormsObeyed
+forms-obeyed = order
 
 pub command-order : CommandOrder
 command-order b setup d n c = subst (Order b d) (sym (commands-answer b setup d n c)) (order b d)
@@ -74,7 +77,7 @@ performed b (ProgramFlash a e) d p = (refl, refl)
 performed b (ProgramEeprom a e) d p = (refl, refl)
 performed b (Read r) d p = (refl, refl)
 performed b (BlankCheck a e) d p =
-    let right = addresses-told (BlankCheck a e) .told (p .address-right) in
+    let right = address-told (BlankCheck a e) .told (p .address-right) in
     let size = p .flash-size in
     let last = right .1 in
     checked b a e (omega arith)

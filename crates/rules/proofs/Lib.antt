@@ -9,7 +9,9 @@ pub mod Shape
 pub mod LevelTableHolds
 pub mod RefusalOrderHolds
 pub mod SetupsHold
+pub mod SessionAloneHolds
 pub mod StatesHold
+pub mod NamedHolds
 pub mod SendingHolds
 pub mod ReportsHold
 pub mod EffectsHold

@@ -32,6 +32,8 @@ answers-told r = record {
   page-count = refl;
   session-next = λ b. refl;
   config-next = λ b. refl;
+  flash-next = λ b. refl;
+  eeprom-next = λ b. refl;
   reply-size = λ p h. simp (length-append, length-drop) (omega arith);
   sent-first = λ p i h. getD-front (r .sent) (drop (length (r .sent)) p) i h;
   rest-stays = λ p i h. getD-rest (r .sent) p i h;
@@ -46,7 +48,7 @@ contracts-said b r a s f e p p₀ = record {
 }
 
 pub run-reported : RunReported
-run-reported b v vs = (refl, refl)
+run-reported = record { in-turn = λ b v vs. (refl, refl); none = λ b. (refl, refl) }
 
 pub outcomes-numbered : OutcomesNumbered
 outcomes-numbered = record { done = refl; stall = refl; reset = λ a. (refl, refl); at-address = λ a. (refl, refl); refused = λ k. (refl, refl) }

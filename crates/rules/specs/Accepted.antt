@@ -19,6 +19,7 @@ use Rattle.command.specs.declared.command.Command.the-variants.{StartReset, Sta
 use Rattle.rules.specs.Session.{session, Pending, Nothing, MemoryRead, BlankReport, OneByte, Start, Reset, AtAddress}
 use Rattle.rules.specs.Levels.{levelStatus}
 use Rattle.rules.specs.Result.{Board, Result, reply, Done}
+use Rattle.rules.specs.Commands.{obeyForm}
 use Rattle.rules.specs.Step.{ask}
 use Rattle.rules.specs.States.{Stalls}
 use Rattle.rules.specs.Effects.{Commands}
@@ -39,6 +40,10 @@ pub record Order (b : Board) (d : List ℕ) (r : Result) : Type 0 where
 
 abbrev pub CommandOrder : Type 0
 CommandOrder = (b : Board) (setup d : List ℕ) (n : ℕ) → Commands b setup d n → Order b d (ask b setup d n)
+
+-- the same of every board and all data, whether a request could bring them or not
+abbrev pub FormsObeyed : Type 0
+FormsObeyed = (b : Board) (d : List ℕ) → Order b d (obeyForm b (form d) d)
 
 -- ---- an accepted command
 

@@ -13,6 +13,8 @@ pub mod LevelTable
 pub mod RefusalOrder
 pub mod Setups
 pub mod States
+pub mod SessionAlone
+pub mod Named
 pub mod Sending
 pub mod Reports
 pub mod BenchCases

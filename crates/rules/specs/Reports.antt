@@ -1,12 +1,13 @@
 -- What is told of a result, field by field, beside the definitions: the answer, the reply buffer, the board after it, the contracts, the report, the
 -- numbers of the outcomes, and the delivered board. Proved in proofs/ReportsHold.antt.
 use mathlib.Core.Path.{_≡_}
-use mathlib.Core.List.{List, _∷_}
+use mathlib.Core.List.{List, [], _∷_}
 use Prim.Native.Nat.{ℕ, _≤_, _<_}
 use lib.ListN.{length, getD}
+use Rattle.memory.specs.Pages.{storeAll}
 use Rattle.memory.specs.declared.address.FlashAddress.{FlashAddress}
 use Rattle.rules.specs.Session.{Session, session, Reset, AtAddress, Nothing}
-use Rattle.rules.specs.Result.{Board, Result, Answer, answer, next, replyAfter, outcomeNumber, outcomeValue, Done, Stall, Started, Refused}
+use Rattle.rules.specs.Result.{Board, Result, Answer, patchAll, answer, next, replyAfter, outcomeNumber, outcomeValue, Done, Stall, Started, Refused}
 use Rattle.rules.specs.Step.{Event, step, after, Report, reports, deliveredBoard}
 use Rattle.rules.specs.Answered.{Answered, Replied, Stepped, Handled}
 
@@ -20,6 +21,9 @@ pub record AnswerTold (r : Result) : Type 0 where
   -- session and configuration of the board after it are the answer's
   pub session-next : (b : Board) → next b r .session ≡ r .session
   pub config-next : (b : Board) → next b r .config ≡ r .config
+  -- its memories are those before it after all stores, and after all bytes of the EEPROM
+  pub flash-next : (b : Board) → next b r .flash ≡ storeAll (r .stored) (b .flash)
+  pub eeprom-next : (b : Board) → next b r .eeprom ≡ patchAll (r .patched) (b .eeprom)
   -- the bytes sent stand first; "In every answer, reply bytes past those sent stay."
   pub reply-size : (reply : List ℕ) → length (r .sent) ≤ length reply → length (replyAfter r reply) ≡ length reply
   pub sent-first : (reply : List ℕ) (i : ℕ) → i < length (r .sent) → getD (replyAfter r reply) i 0 ≡ getD (r .sent) i 0
@@ -36,10 +40,11 @@ abbrev pub ContractsSaid : Type 0
 ContractsSaid = (b : Board) (r : Result) (a : Answer) (s : Session) (f e p p₀ : List ℕ) → ContractsSay b r a s f e p p₀
 
 -- demand 3 speaks of reports: each event of a run has one, with all that its answer tells; and the run goes on from the board that it leaves
-abbrev pub RunReported : Type 0
-RunReported = (b : Board) (v : Event) (vs : List Event) → let r : Result = step b v in
-    let told : Report = record { outcome = r .outcome; sent = r .sent; session = r .session; config = r .config; pages = length (r .stored) } in
-    (reports b (v ∷ vs) ≡ told ∷ reports (next b r) vs) × (after b (v ∷ vs) ≡ after (next b r) vs)
+pub record RunReported : Type 0 where
+  pub in-turn : (b : Board) (v : Event) (vs : List Event) → let r : Result = step b v in
+      let told : Report = record { outcome = r .outcome; sent = r .sent; session = r .session; config = r .config; pages = length (r .stored) } in
+      (reports b (v ∷ vs) ≡ told ∷ reports (next b r) vs) × (after b (v ∷ vs) ≡ after (next b r) vs)
+  pub none : (b : Board) → (reports b [] ≡ []) × (after b [] ≡ b)
 
 -- no two outcomes have one number and one value
 pub record OutcomesNumbered : Type 0 where

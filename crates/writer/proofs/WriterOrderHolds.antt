@@ -16,7 +16,7 @@ use Rattle.config.specs.Config.{writable, readable, fixedIndexes}
 use Rattle.command.specs.Address.{badAddress}
 use Rattle.command.specs.Transfer.{padding}
 use Rattle.command.specs.Ranges.{Unless, AddressRight}
-use Rattle.command.proofs.RangesHold.{addresses-told}
+use Rattle.command.proofs.RangesHold.{address-told}
 use Rattle.command.specs.declared.transfer.Transfer.the-variants.{Of}
 use Rattle.command.specs.declared.command.Command.{Command}
 use Rattle.command.specs.declared.command.Command.the-variants.{ProgramFlash, ProgramEeprom, Read, BlankCheck, EraseBlock, EraseChip, WriteByte, WriteHsb}
@@ -74,13 +74,13 @@ carried-told ReadHsb d s r = free
 
 module _ (k : Command) (d s : List ℕ) where
   can : Writable k d s → cannotWrite k d s ≡ false
-  can w = rw (addresses-told k .passes (w .address-right), carried-told k d s (w .address-right) .passes (w .carried-right))
+  can w = rw (address-told k .passes (w .address-right), carried-told k d s (w .address-right) .passes (w .carried-right))
 
   can-not : (Writable k d s → ⊥) → (t : Bool) → cannotWrite k d s ≡ t → t ≡ true
   can-not h true q = refl
   can-not h false q =
       let o = or-false (badAddress k) (badWrite k (length d) (length s)) q in
-      let a = addresses-told k .told (o .0) in
+      let a = address-told k .told (o .0) in
       absurd (h (record { address-right = a; carried-right = carried-told k d s a .told (o .1) }))
 
 pub writer-order : WriterOrder

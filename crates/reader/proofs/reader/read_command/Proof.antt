@@ -10,10 +10,10 @@ use Rattle.reader.proofs.reader.read_command.Tie as tie
 returns : tie.Need-returns
 returns c =
     let arm = c .before .before in
-    c .read-as .ensures ∙ ap readingOf (sym (arm .command .given .1) ∙ arm .before .before .judge .ensures) ∙ read-judged _
+    c .read-as .ensures ∙ ap readingOf (sym (arm .command .given .1) ∙ arm .before .before .judge .ensures) ∙ read-judged .read _
 
 returns-2 : tie.Need-returns-2
-returns-2 c = ap readingOf (sym (c .enum-told .given .1) ∙ c .before .before .judge .ensures) ∙ read-judged _
+returns-2 c = ap readingOf (sym (c .enum-told .given .1) ∙ c .before .before .judge .ensures) ∙ read-judged .read _
 
 pub read-command-spec : {M : Type 1} → statement M
 read-command-spec = tie.close
