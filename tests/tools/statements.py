@@ -12,6 +12,7 @@ WORD = re.compile(r"[^\s(){};,.\"]+")
 HEAD = re.compile(r"(?:(?:abbrev|unfoldable|pub|record|data)\s+)*([^\s(){}:]+)")
 USED = re.compile(r"(?m)^(?:pub )?use Rattle·(\w+)(?:·specs)?\.specs\.([A-Z]\w*)\.\{([^}]*)\}")
 BARE = re.compile(r"(?m)^(?:abbrev|unfoldable) pub ([A-Z]\w*) : Type 0$|^pub record ([A-Z]\w*) : Type 0 where$")
+SAYS = re.compile(r"(pub (record|data) [^\n]*: Type 0 where$|(abbrev|unfoldable) pub [^\n]*: ([^\n]*→ )?Type 0$)", re.M)
 PROVED = re.compile(r"(?m)^pub [^\s:]+ : ([A-Z]\w*)$")
 
 
@@ -80,4 +81,20 @@ class Tree:
             text = path.read_text()
             for _, name, _, promises in contracts.functions(text):
                 found.setdefault(name, []).append((path.parts[-3], path, contracts.named(text, promises)))
+        return found
+
+    def says(self, at):
+        """Whether a name says something that is so or not, as statements do and what they are made of, and is no value."""
+        text = self.texts.get(at[:2], {}).get(at[2], "")
+        return bool(SAYS.match(text))
+
+    @functools.cached_property
+    def told(self):
+        """The definitions that the statements name in their own words, whatever these reach."""
+        found, waiting = set(), [(crate, file, name) for (crate, name), (file, _) in self.statements.items()]
+        while waiting:
+            crate, file, name = waiting.pop()
+            named = set(self.mentioned((crate, file), self.texts[crate, file][name])) - found
+            waiting.extend(other for other in named if self.says(other))
+            found |= named
         return found
