@@ -12,7 +12,7 @@ const BLANK: u8 = 0xFF;
 const NO_PLACE: u8 = 255;
 
 // What the search finds: the first byte that is not FFh, or none.
-#[derive(Drop)]
+#[derive(Clone, Copy)]
 pub enum Used {
     At(FlashAddress),
     Nowhere,

@@ -2,7 +2,7 @@
 use crate::command::Command;
 
 // A command, or data that the table has not.
-#[derive(Drop)]
+#[derive(Clone, Copy)]
 pub enum Form {
     Is(Command),
     Unlisted,

@@ -2,6 +2,8 @@
 // their form and of the loader's reader stand here too, with the types of what these answer; their code is crates/reader.
 //
 // No public function has a `requires`: each says what it answers for every input.
+#![tactic(auto)]
+
 mod check;
 mod command;
 mod form;

@@ -8,7 +8,7 @@ use crate::command::Command;
 use memory::Range;
 
 // A program transfer, to either memory, by its X and its n; or no transfer.
-#[derive(Drop)]
+#[derive(Clone, Copy)]
 pub enum Transfer {
     Of(u8, u32),
     NoTransfer,

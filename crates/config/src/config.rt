@@ -3,7 +3,7 @@ ghost use Rattle.std.specs.Prelude.{◌≡◌};
 ghost use Rattle.config.specs.Config.{delivered_config, readable, writable, byte_read, with_byte, with_hsb, erased_config};
 
 // The seven bytes of index 00h to 06h in their order, and HSB.
-#[derive(Drop)]
+#[derive(Clone, Copy)]
 pub struct Config {
     pub bsb: u8,
     pub sbv: u8,
@@ -52,7 +52,7 @@ pub fn is_readable(index: u8) -> bool
 }
 
 // A byte that was read by its index.
-#[derive(Drop)]
+#[derive(Clone, Copy)]
 pub enum ByteRead {
     Value(u8),
     Unknown,

@@ -1,6 +1,8 @@
 // The eight configuration bytes and the fixed bytes of document 01's board, and the level of security that one of them sets.
 //
 // No public function has a `requires`: each says what it answers for every input.
+#![tactic(auto)]
+
 mod config;
 mod level;
 

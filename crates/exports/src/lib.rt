@@ -3,6 +3,8 @@
 // rust/exports.rs for Rust; the layout of the numbers is crates/numbers' and crates/plugnumbers'.
 //
 // No public function has a `requires`: each says what it answers for every input.
+#![tactic(auto)]
+
 mod records;
 
 ghost use Rattle.std.specs.Prelude.{◌≡◌, length};

@@ -13,7 +13,7 @@ use reader::{Fit, Judgement, judge};
 use rules::Answer;
 
 // The answer of a command that is taken; the error status of one that sets it; or a stall.
-#[derive(Drop)]
+#[derive(Clone, Copy)]
 pub enum Obeyed {
     Taken(Answer),
     Sets(u8),

@@ -20,7 +20,7 @@ pub const GROUP: u8 = 0x02;
 const NOTE: u8 = 0x03;
 
 // The size of a value that lies within what encloses it, or that it goes beyond.
-#[derive(Drop)]
+#[derive(Clone, Copy)]
 pub enum Reach {
     Within(usize),
     Beyond,

@@ -9,14 +9,14 @@ use crate::field::{GROUP, HEAD_SIZE, Reach, reach_of, tag_refusal};
 pub const MOST_FILE: usize = 16384;
 
 // Accepted, or the number of the refusal and the offset of the bad field's tag.
-#[derive(Drop)]
+#[derive(Clone, Copy)]
 pub enum Verdict {
     Accepted,
     Refused(u8, usize),
 }
 
 // Where the next field begins; or a refusal, of this field or of one that it holds.
-#[derive(Drop)]
+#[derive(Clone, Copy)]
 pub enum FieldRead {
     Next(usize),
     Bad(u8, usize),

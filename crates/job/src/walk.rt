@@ -5,7 +5,7 @@ ghost use Rattle.job.specs.Walk.{walk, first_met};
 use crate::field::{GROUP, HEAD_SIZE, REQUEST, Reach, reach_of};
 
 // Where the value of the request that was met begins, and its size; or no more requests. The next walk starts behind the value.
-#[derive(Drop)]
+#[derive(Clone, Copy)]
 pub enum Met {
     Request(usize, usize),
     NoMore,

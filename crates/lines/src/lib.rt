@@ -2,6 +2,8 @@
 // lines themselves are crates/printing's.
 //
 // No public function has a `requires`: each says what it answers for every input.
+#![tactic(auto)]
+
 mod line;
 mod text;
 

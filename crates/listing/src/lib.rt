@@ -1,6 +1,8 @@
 // A file of records, one a line, with notes between them. Knows nothing of what a record says.
 //
 // No public function has a `requires`: each says what it answers for every input.
+#![tactic(auto)]
+
 mod count;
 mod line;
 mod walk;

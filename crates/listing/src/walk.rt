@@ -6,7 +6,7 @@ use crate::line::{is_record, line_end, without_return};
 
 // Where the characters of the record that was met begin, and the place after them; or no more records. The next walk starts at that
 // place.
-#[derive(Drop)]
+#[derive(Clone, Copy)]
 pub enum Met {
     Record(usize, usize),
     NoMore,

@@ -2,6 +2,8 @@
 // What stores bytes or erases pages from a place on takes the flash of any board.
 //
 // No public function has a `requires`: each says what it answers for every input.
+#![tactic(auto)]
+
 mod address;
 mod erase;
 mod page;

@@ -2,6 +2,8 @@
 // specs/Layout.antt, the words of a number, and the configuration. The others are packed by the crates above.
 //
 // No public function has a `requires`: each says what it answers for every input.
+#![tactic(auto)]
+
 mod config_number;
 mod packing;
 

@@ -2,7 +2,7 @@
 use crate::board::Config;
 use memory::FlashAddress;
 
-#[derive(Drop)]
+#[derive(Clone, Copy)]
 pub enum Outcome {
     // The answer's characters stand in the room, `X` and `P` too.
     Answered,
@@ -14,7 +14,7 @@ pub enum Outcome {
 }
 
 // The outcome, the configuration after it, how many characters the answer has, and how many pages were stored.
-#[derive(Drop)]
+#[derive(Clone, Copy)]
 pub struct Answer {
     pub outcome: Outcome,
     pub config: Config,

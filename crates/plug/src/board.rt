@@ -1,5 +1,5 @@
 // The configuration bytes of the board.
-#[derive(Drop)]
+#[derive(Clone, Copy)]
 pub struct Config {
     pub bsb: u8,
     pub sbv: u8,

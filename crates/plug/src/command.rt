@@ -2,7 +2,7 @@
 use memory::FlashAddress;
 
 // The four blocks of flash.
-#[derive(Drop)]
+#[derive(Clone, Copy)]
 pub enum Block {
     Block0,
     Block1,
@@ -11,14 +11,14 @@ pub enum Block {
 }
 
 // A fuse bit: "U: Unprogrammed = 1, P: Program = 0".
-#[derive(Drop)]
+#[derive(Clone, Copy)]
 pub enum Bit {
     Programmed,
     Unprogrammed,
 }
 
 // What "Program Configuration Information" sets.
-#[derive(Drop)]
+#[derive(Clone, Copy)]
 pub enum Setting {
     SsbLevel1,
     SsbLevel2,
@@ -31,7 +31,7 @@ pub enum Setting {
 
 // What "Read Configuration Information or Manufacturer Information" reads: a byte that no board changes, with its value, or one of
 // the configuration.
-#[derive(Drop)]
+#[derive(Clone, Copy)]
 pub enum Byte {
     Fixed(u8),
     Ssb,
@@ -41,7 +41,7 @@ pub enum Byte {
 }
 
 // A command, as the tables of document 002 have it. The bytes of a program record stand beside it, in the record's data.
-#[derive(Drop)]
+#[derive(Clone, Copy)]
 pub enum Command {
     Program(FlashAddress),
     Display(FlashAddress, FlashAddress),

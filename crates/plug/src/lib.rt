@@ -1,5 +1,7 @@
 // The rules of the serial plug, P2's board with an AT89C51SND1: its configuration, its commands and one record, as definitions, and
 // what is proved over them. The records themselves are crates/record's, the step is crates/serial's.
+#![tactic(auto)]
+
 mod answer;
 mod board;
 mod command;

@@ -1,6 +1,8 @@
 // The bench program of the serial plug: a file of records on standard input, and on standard output the text that answers it. What the
 // text is stands in crates/plugrun; here its pieces are handed on one after another. No contract can say that standard input is read to
 // its end, and that what is handed on reaches standard output.
+#![tactic(auto)]
+
 ghost use Rattle.std.specs.Prelude.{◌⊎◌, ◌≡◌, suc, length};
 ghost use Rattle.listing.specs.Records.{most_file};
 ghost use Rattle.plugrun.specs.Written.{pieces};

@@ -2,6 +2,8 @@
 // crates/plug's, the characters of an answer crates/replies'.
 //
 // No public function has a `requires`: each says what it answers for every input.
+#![tactic(auto)]
+
 mod commands;
 
 pub use commands::perform;

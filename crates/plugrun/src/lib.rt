@@ -2,6 +2,8 @@
 // standard input and output.
 //
 // No public function has a `requires`: each says what it answers for every input.
+#![tactic(auto)]
+
 mod first;
 mod turn;
 

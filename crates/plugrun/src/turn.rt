@@ -21,13 +21,13 @@ pub const MOST_ANSWER: usize = 159744;
 pub const MOST_TEXT: usize = 66 + MOST_ANSWER;
 
 // The configuration, and the place in the file from which on the next record is looked for.
-#[derive(Drop)]
+#[derive(Clone, Copy)]
 pub struct Progress {
     pub config: Config,
     pub at: usize,
 }
 
-#[derive(Drop)]
+#[derive(Clone, Copy)]
 pub enum Turn {
     // A record was taken: what the next turn starts from, and how many bytes its text has.
     Took(Progress, usize),

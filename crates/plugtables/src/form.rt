@@ -23,7 +23,7 @@ const VERSION: u8 = 0x11;
 const MOST_PROGRAM: usize = 128;
 
 // A command, or a record that no table has.
-#[derive(Drop)]
+#[derive(Clone, Copy)]
 pub enum Form {
     Is(Command),
     Unlisted,

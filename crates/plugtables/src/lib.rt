@@ -2,6 +2,8 @@
 // definitions are crates/plug's.
 //
 // No public function has a `requires`: each says what it answers for every input.
+#![tactic(auto)]
+
 mod allowed;
 mod form;
 mod setting;

@@ -6,7 +6,7 @@ use crate::form::form_of;
 use command::{COMMAND_SIZE, Command, Form, Parts, SUFFIX_SIZE, Transfer};
 
 // A command against its data: the parts of one that is right, or the first that is wrong.
-#[derive(Drop)]
+#[derive(Clone, Copy)]
 pub enum Fit {
     Fits(Parts),
     BadAddress,
@@ -14,7 +14,7 @@ pub enum Fit {
 }
 
 // A command with how it fits its data; or data that the table has not.
-#[derive(Drop)]
+#[derive(Clone, Copy)]
 pub enum Judgement {
     Is(Command, Fit),
     Unlisted,

@@ -1,6 +1,6 @@
 // What a record says.
 // "Load Offset", "Record Type" and "Record length"; the data stands beside them, in the reader's room.
-#[derive(Drop)]
+#[derive(Clone, Copy)]
 pub struct Fields {
     pub offset: u16,
     pub kind: u8,
@@ -8,7 +8,7 @@ pub struct Fields {
 }
 
 // What the reader answers: the fields, that the checksum is wrong, or the number of its refusal.
-#[derive(Drop)]
+#[derive(Clone, Copy)]
 pub enum Reading {
     Taken(Fields),
     WrongChecksum,

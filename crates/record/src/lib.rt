@@ -1,5 +1,7 @@
 // The records of the serial plug as definitions: what their characters are worth, the loader's reader and the host's writer, and what is
 // proved over them. The code is crates/digits', crates/recordreader's and crates/recordwriter's.
+#![tactic(auto)]
+
 mod fields;
 mod reader;
 mod writer;

@@ -1,6 +1,6 @@
 // The writer's answer.
 // What the writer answers: how many characters it wrote, or the number of its refusal.
-#[derive(Drop)]
+#[derive(Clone, Copy)]
 pub enum Written {
     Wrote(usize),
     Unwritten(u8),

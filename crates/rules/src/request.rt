@@ -1,6 +1,6 @@
 // The requests.
 // Each request with what it needs of wLength. Whatever is not listed is Other, and stalls.
-#[derive(Drop)]
+#[derive(Clone, Copy)]
 pub enum Request {
     Dnload(u16),
     Upload(u16),

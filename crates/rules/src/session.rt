@@ -1,14 +1,14 @@
 // The session record.
 use memory::{FlashAddress, Range};
 
-#[derive(Drop)]
+#[derive(Clone, Copy)]
 pub enum StartKind {
     Reset,
     AtAddress,
 }
 
 // What is pending.
-#[derive(Drop)]
+#[derive(Clone, Copy)]
 pub enum Pending {
     Nothing,
     MemoryRead(Range),
@@ -19,7 +19,7 @@ pub enum Pending {
 }
 
 // P5 of 02: "The session record gets a busy page count."
-#[derive(Drop)]
+#[derive(Clone, Copy)]
 pub struct Session {
     pub state: u8,
     pub status: u8,

@@ -24,7 +24,7 @@ use rules::{Answer, Outcome, Session};
 const SETUP_SIZE: usize = 8;
 
 // Session and configuration, the number of the next request, and the place in the room where its line begins.
-#[derive(Drop)]
+#[derive(Clone, Copy)]
 pub struct Progress {
     pub session: Session,
     pub config: Config,

@@ -2,6 +2,8 @@
 // crates/plugtables', what a command does crates/plugcommands', and the characters of an answer crates/replies'.
 //
 // No public function has a `requires`: each says what it answers for every input.
+#![tactic(auto)]
+
 mod respond;
 
 pub use respond::step;

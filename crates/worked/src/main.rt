@@ -1,4 +1,6 @@
 // The worked examples of document 01, and of P1 and P4 of 02, run through the public functions. Each check is proved before it is run.
+#![tactic(auto)]
+
 ghost use Rattle.std.specs.Prelude.{◌≡◌};
 ghost use Rattle.memory.specs.Memory.{flash_address};
 ghost use Rattle.reader.specs.Payload.{fit};

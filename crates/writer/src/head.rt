@@ -8,7 +8,7 @@ use command::Command;
 use memory::{Block, Range};
 
 // The first so many of six bytes.
-#[derive(Drop)]
+#[derive(Clone, Copy)]
 pub struct Head {
     pub bytes: [u8; 6],
     pub size: usize,

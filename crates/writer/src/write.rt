@@ -8,7 +8,7 @@ use crate::head::{Head, head_of};
 use command::{Command, FILLER_SIZE, SUFFIX_SIZE, Transfer};
 
 // What the writer answers: how many bytes it put into its room, or the number of its refusal.
-#[derive(Drop)]
+#[derive(Clone, Copy)]
 pub enum Written {
     Wrote(usize),
     Unwritten(u8),
@@ -40,7 +40,7 @@ pub fn written_count(written: Written) -> usize
 }
 
 // How much follows a command's head: zeros of filler and pad, bytes of the body, bytes of the suffix.
-#[derive(Drop)]
+#[derive(Clone, Copy)]
 pub struct Tail {
     pub zeros: usize,
     pub body: usize,
