@@ -59,6 +59,7 @@ pub enum ByteRead {
 }
 
 // The byte of an index: 00h to 06h, or one of the fixed bytes.
+#[tactic(auto, unfolding(crate::specs::Config::byte_read))]
 pub fn read_byte(config: Config, index: u8) -> ByteRead
     ensures { result ≡ byte_read index config }
 {
