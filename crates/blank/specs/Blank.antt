@@ -1,7 +1,7 @@
 -- The blank check's finding: the first byte of a range that is not FFh. Assumes nothing: these are definitions and a statement.
-use Rattle.std.specs.Prelude.{List, [], ◌∷◌, ◌↔◌, ◌≡◌, ℕ, suc, ◌≤◌, ◌<◌, max, eqb, length, get_or}
+use Rattle.std.specs.Prelude.{if◌then◌else◌, List, [], ◌∷◌, ◌↔◌, ◌≡◌, ℕ, suc, ◌≤◌, ◌<◌, max, eqb, length, get_or}
 use Rattle.std.proofs.Math.Option.{Option, none, some}
-use Rattle.words.specs.Words.{if◌then◌else◌, part}
+use Rattle.words.specs.Words.{part}
 use Rattle.memory.specs.Memory.{flash_address}
 pub use Rattle.blank.specs.declared.search.Used.{Used}
 pub use Rattle.blank.specs.declared.search.Used.TheVariants.{At, Nowhere}

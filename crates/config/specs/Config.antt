@@ -1,6 +1,6 @@
 -- The paper's configuration bytes and fixed bytes. Assumes nothing: these are definitions and a statement.
-use Rattle.std.specs.Prelude.{◌≡◌, Bool, ◌||◌, List, [], ◌∷◌, ℕ, ◌+◌, ◌*◌, ◌/◌, ◌%◌, ◌<◌, eqb, leb}
-use Rattle.words.specs.Words.{if◌then◌else◌, among}
+use Rattle.std.specs.Prelude.{if◌then◌else◌, ◌≡◌, Bool, ◌||◌, List, [], ◌∷◌, ℕ, ◌+◌, ◌*◌, ◌/◌, ◌%◌, ◌<◌, eqb, leb}
+use Rattle.words.specs.Words.{among}
 pub use Rattle.config.specs.declared.config.Config.{Config}
 pub use Rattle.config.specs.declared.config.ByteRead.{ByteRead}
 pub use Rattle.config.specs.declared.config.ByteRead.TheVariants.{Value, Unknown}

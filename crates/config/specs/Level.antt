@@ -1,6 +1,5 @@
 -- The papers' levels of security: the level of an SSB byte, and of a board. Assumes nothing: these are definitions.
-use Rattle.std.specs.Prelude.{◌≡◌, ℕ, eqb}
-use Rattle.words.specs.Words.{if◌then◌else◌}
+use Rattle.std.specs.Prelude.{if◌then◌else◌, ◌≡◌, ℕ, eqb}
 use Rattle.config.specs.Config.{Config}
 pub use Rattle.config.specs.declared.level.Level.{Level}
 pub use Rattle.config.specs.declared.level.Level.TheVariants.{L0, L1, L2}

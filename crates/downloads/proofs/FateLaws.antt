@@ -1,11 +1,11 @@
 -- What DNLOAD answers for what becomes of a command.
 -- Assumes nothing.
+use Rattle.std.specs.Prelude.{if◌then◌else◌}
 use mathlib.Core.Path.{◌≡◌, refl, sym, ap, ◌∙◌, subst}
 use mathlib.Core.Bool.{Bool, true, false}
 use mathlib.Core.List.{List, []}
 use mathlib.Core.Option.{Option, none, some}
 use Prim.Native.Nat.{ℕ}
-use Rattle.words.specs.Words.{if◌then◌else◌}
 use Rattle.config.specs.Level.{level}
 use Rattle.config.specs.declared.config.Config.{Config}
 use Rattle.command.specs.Address.{bad_address, bad_address_status}

@@ -1,5 +1,6 @@
 -- Laws of one field: how far it reaches, and its verdict by the tests that lead to it.
 -- Assumes nothing.
+use Rattle.std.specs.Prelude.{if◌then◌else◌}
 use mathlib.Core.Path.{◌≡◌, refl, sym, ◌∙◌}
 use mathlib.Core.Logic.{◌⊎◌, inl, inr, ⊎_elim}
 use mathlib.Core.Bool.{Bool, true, false}
@@ -9,7 +10,6 @@ use native.Mathlib.Omega.{arith}
 use lib.Dec.{ltb, eqb}
 use lib.ListN.{get_or}
 use borrow.Author.Tests.{le-ltb, lt-ltb, le-leb, eq-eqb, ne_eqb, eqb-true, eqb-false, ltb-true, ltb-false}
-use Rattle.words.specs.Words.{if◌then◌else◌}
 use Rattle.job.specs.Field.{tag_at, length_at, value_at, end_at, request_tag, group_tag, by_tag, beyond, tag_refusal}
 use Rattle.job.specs.Verdict.{Verdict, Accepted, Refused, field_verdict}
 use Rattle.job.specs.Read.{reach_of}

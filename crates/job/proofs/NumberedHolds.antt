@@ -1,5 +1,6 @@
 -- The numbers of the job's answers: a verdict's by the fields that it goes through, a request's by the steps of the walk.
 -- Assumes nothing.
+use Rattle.std.specs.Prelude.{if◌then◌else◌}
 use mathlib.Core.Path.{◌≡◌, refl}
 use mathlib.Core.Logic.{⊎_elim}
 use mathlib.Core.Bool.{Bool, true, false, ◌&&◌, not, or-true, false≢true}
@@ -9,7 +10,7 @@ use native.Mathlib.Omega.{arith}
 use lib.Dec.{eqb, leb, ltb}
 use lib.ListN.{length}
 use borrow.Author.Tests.{ne_eqb, lt-ltb, le-ltb}
-use Rattle.words.specs.Words.{if◌then◌else◌, among}
+use Rattle.words.specs.Words.{among}
 use Rattle.job.specs.Field.{tag_at, length_at, value_at, end_at, request_tag, group_tag, note_tag, setup_size, most_note, most_depth, beyond, tag_refusal}
 use Rattle.job.specs.Verdict.{Verdict, Accepted, Refused, verdict_number, verdict_place, and_then, field_verdict, fields_verdict, verdict}
 use Rattle.job.specs.Walk.{Met, Request, NoMore, walk, first_met}

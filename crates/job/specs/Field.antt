@@ -1,7 +1,7 @@
 -- The paper's "fields of one-byte tag, two-byte length (high first), value". A place is an offset from the start of the file.
 -- Assumes nothing: these are definitions.
-use Rattle.std.specs.Prelude.{Bool, not, ◌&&◌, ◌||◌, List, [], ◌∷◌, ℕ, ◌+◌, eqb, leb, ltb}
-use Rattle.words.specs.Words.{if◌then◌else◌, among, byte_at, high_first}
+use Rattle.std.specs.Prelude.{if◌then◌else◌, Bool, not, ◌&&◌, ◌||◌, List, [], ◌∷◌, ℕ, ◌+◌, eqb, leb, ltb}
+use Rattle.words.specs.Words.{among, byte_at, high_first}
 
 -- "one-byte tag, two-byte length (high first)": the three bytes before a value
 abbrev pub head_size : ℕ

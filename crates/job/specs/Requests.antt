@@ -1,6 +1,5 @@
 -- The requests of a job. Assumes nothing: these are definitions.
-use Rattle.std.specs.Prelude.{List, [], ◌∷◌, ◌++◌, ◌≡◌, ℕ, zero, suc, ◌+◌, ◌≤◌, ltb, length, take, drop}
-use Rattle.words.specs.Words.{if◌then◌else◌}
+use Rattle.std.specs.Prelude.{if◌then◌else◌, List, [], ◌∷◌, ◌++◌, ◌≡◌, ℕ, zero, suc, ◌+◌, ◌≤◌, ltb, length, take, drop}
 use Rattle.job.specs.Field.{tag_at, length_at, value_at, end_at, setup_size, by_tag, beyond}
 use Rattle.job.specs.Verdict.{most_file}
 

@@ -1,6 +1,6 @@
 -- Text put into a room. Assumes nothing: these are definitions and a statement.
-use Rattle.std.specs.Prelude.{◌≡◌, List, ℕ, ◌+◌, ◌≤◌, ◌<◌, length}
-use Rattle.words.specs.Words.{if◌then◌else◌, fits, overlay, laid}
+use Rattle.std.specs.Prelude.{if◌then◌else◌, ◌≡◌, List, ℕ, ◌+◌, ◌≤◌, ◌<◌, length}
+use Rattle.words.specs.Words.{fits, overlay, laid}
 use Rattle.lines.specs.Text.{decimal}
 use Rattle.lines.specs.Line.{Word, word_text, reply_text}
 pub use Rattle.lines.specs.declared.line.Put.{Put}

@@ -1,5 +1,6 @@
 -- Laws of the records of a file: how they go on from a line, and that the walk meets them in order.
 -- Assumes nothing.
+use Rattle.std.specs.Prelude.{if◌then◌else◌}
 use mathlib.Core.Logic.{⊎_elim}
 use mathlib.Core.Path.{◌≡◌, refl, sym, ap, ◌∙◌}
 use mathlib.Core.Bool.{Bool, true, false}
@@ -10,7 +11,6 @@ use native.Mathlib.Omega.{arith}
 use lib.Dec.{leb, ltb}
 use lib.ListN.{length}
 use borrow.Author.Tests.{le-leb, lt-leb}
-use Rattle.words.specs.Words.{if◌then◌else◌}
 use Rattle.listing.specs.Line.{line_end, without_return, text_end, is_record}
 use Rattle.listing.specs.Records.{Record, NoMore, Span, span, most_file, records_in, records_from, records_of, first_met, walked_on, walked, InOrder}
 use Rattle.listing.proofs.LineLaws.{which, lt_or_ge, line_within, line_again, line_before, cut, cut_or_not, not_cut_empty, cut_bounds}

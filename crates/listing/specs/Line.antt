@@ -1,7 +1,7 @@
 -- A line of a file, and whether it is a record. A place is an offset from the start of the file. Assumes nothing: these are definitions.
-use Rattle.std.specs.Prelude.{Bool, true, false, not, ◌&&◌, List, [], ◌∷◌, ℕ, ◌+◌, ◌-◌, eqb, ltb, length, take, drop}
+use Rattle.std.specs.Prelude.{if◌then◌else◌, Bool, true, false, not, ◌&&◌, List, [], ◌∷◌, ℕ, ◌+◌, ◌-◌, eqb, ltb, length, take, drop}
 use Rattle.bytes.specs.Bytes.{index_of}
-use Rattle.words.specs.Words.{if◌then◌else◌, byte_at}
+use Rattle.words.specs.Words.{byte_at}
 use Rattle.lines.specs.Text.{ascii}
 
 -- LF, CR and `#`

@@ -1,6 +1,5 @@
 -- The records of a file. Assumes nothing: these are definitions and a statement.
-use Rattle.std.specs.Prelude.{◌≡◌, List, [], ◌∷◌, ℕ, zero, suc, leb, ltb, length}
-use Rattle.words.specs.Words.{if◌then◌else◌}
+use Rattle.std.specs.Prelude.{if◌then◌else◌, ◌≡◌, List, [], ◌∷◌, ℕ, zero, suc, leb, ltb, length}
 use Rattle.listing.specs.Line.{line_end, text_end, is_record}
 pub use Rattle.listing.specs.declared.walk.Met.{Met}
 pub use Rattle.listing.specs.declared.walk.Met.TheVariants.{Record, NoMore}

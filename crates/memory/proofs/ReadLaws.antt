@@ -1,5 +1,6 @@
 -- What reading a range leaves in the buffer, of a memory of any size.
 -- Assumes nothing.
+use Rattle.std.specs.Prelude.{if◌then◌else◌}
 use mathlib.Core.Path.{◌≡◌, refl, sym, ◌∙◌}
 use mathlib.Core.Logic.{inr}
 use mathlib.Core.Bool.{Bool, true, false, ◌&&◌, and-eq-true_iff, false≢true}
@@ -11,7 +12,7 @@ use lib.Dec.{leb, ltb}
 use lib.ListN.{length, drop, get_or, length-drop, length-replicate, get_or-replicate}
 use lib.Seq.{length-take-le, get_or-take, get_or-drop}
 use borrow.Author.Tests.{le-leb, lt-ltb, leb-true, ltb-true}
-use Rattle.words.specs.Words.{if◌then◌else◌, count, part, overlay, Programmed}
+use Rattle.words.specs.Words.{count, part, overlay, Programmed}
 use Rattle.words.proofs.WordsLaws.{overlay_programmed}
 use Rattle.memory.specs.Memory.{flash_size, blank_flash, BoardSizes}
 use Rattle.memory.specs.Read.{copyable, copied, buffer_after, Readable, ReadOrNot, AnySizeRead, OwnSelected, OwnRead}

@@ -1,5 +1,6 @@
 -- The statements of specs/Stored.antt hold: each operation by the laws of its stores, and by the test that it makes.
 -- Assumes nothing.
+use Rattle.std.specs.Prelude.{if◌then◌else◌}
 use mathlib.Core.Path.{◌≡◌, refl, sym, ap, ◌∙◌, subst}
 use mathlib.Core.Bool.{Bool, true, false, ◌&&◌, and-eq-true_iff}
 use mathlib.Core.List.{List, []}
@@ -8,7 +9,6 @@ use native.Mathlib.Omega.{arith}
 use lib.Dec.{eqb, leb, ltb}
 use lib.ListN.{length}
 use borrow.Author.Tests.{eq-eqb, ne_eqb, eqb-true, leb-true, ltb-true}
-use Rattle.words.specs.Words.{if◌then◌else◌}
 use Rattle.words.proofs.WordsLaws.{overlay_programmed}
 use Rattle.memory.specs.Memory.{flash_size, flash_pages, page_size, most_flash}
 use Rattle.memory.specs.Pages.{Store, Rising, page_store, pages_met}

@@ -1,6 +1,7 @@
 -- The statements of specs/LevelTwo.antt hold. One record is answered alike by two boards with the same SSB and the same blank bytes, and
 -- at level 2 it either moves nothing or is a full chip erase that is done; runs follow by induction.
 -- Assumes nothing.
+use Rattle.std.specs.Prelude.{if◌then◌else◌}
 use mathlib.Core.Path.{◌≡◌, refl, sym, ap, ◌∙◌, subst}
 use mathlib.Core.Bool.{Bool, true, false, true≢false}
 use mathlib.Core.List.{List, [], ◌∷◌}
@@ -10,7 +11,6 @@ use native.Mathlib.Omega.{arith}
 use lib.Dec.{eqb, ltb, lit<, lit≤}
 use lib.ListN.{length, get_or}
 use borrow.Author.Tests.{eqb-true, eq-eqb, le-ltb, lt-ltb}
-use Rattle.words.specs.Words.{if◌then◌else◌}
 use Rattle.memory.specs.Memory.{flash_address}
 use Rattle.blank.proofs.BlankLaws.{marks, used_in_same, used_in_one}
 use Rattle.blank.proofs.SameBlankLaws.{same_marks, differ_at}

@@ -1,6 +1,7 @@
 -- Every answer has one of three shapes: a numbered refusal; `X` or `P`, which move nothing; or what a command does that passed. This
 -- is the one walk through the order of the refusals: the laws of effects and of level 2 go by its cases.
 -- Assumes nothing.
+use Rattle.std.specs.Prelude.{if◌then◌else◌}
 use mathlib.Core.Path.{◌≡◌, refl}
 use mathlib.Core.Bool.{Bool, true, false}
 use mathlib.Core.List.{List, [], ◌∷◌}
@@ -9,7 +10,7 @@ use Prim.Native.Nat.{ℕ, ◌≤◌, zero-le}
 use lib.Dec.{eqb, ltb}
 use lib.ListN.{length}
 use borrow.Author.Tests.{eqb-true, ltb-false}
-use Rattle.words.specs.Words.{if◌then◌else◌, among}
+use Rattle.words.specs.Words.{among}
 use Rattle.record.specs.Record.{data_of}
 use Rattle.record.specs.Reader.{well_formed, sums_to_zero, fields_of, reading, data_read}
 use Rattle.record.specs.declared.fields.Fields.{Fields}

@@ -1,8 +1,8 @@
 -- 002's tables "Requests from Host": which command a record is, by its type, its length and its first data bytes. Assumes nothing:
 -- these are definitions.
-use Rattle.std.specs.Prelude.{Bool, false, ◌||◌, List, ℕ, ◌+◌, eqb, ltb, length}
+use Rattle.std.specs.Prelude.{if◌then◌else◌, Bool, false, ◌||◌, List, ℕ, ◌+◌, eqb, ltb, length}
 use Rattle.std.proofs.Math.Option.{Option, none, some}
-use Rattle.words.specs.Words.{if◌then◌else◌, byte_at, high_first}
+use Rattle.words.specs.Words.{byte_at, high_first}
 use Rattle.memory.specs.Memory.{flash_address, page}
 use Rattle.memory.specs.declared.address.FlashAddress.{FlashAddress}
 use Rattle.memory.specs.declared.address.Page.{Page}

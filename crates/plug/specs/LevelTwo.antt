@@ -1,8 +1,7 @@
 -- P2 of 02: "Demand 3 is stated again for this crate over its own blank check, its converse where the room takes that check's
 -- answer." Proved in proofs/LevelTwoHolds.antt.
-use Rattle.std.specs.Prelude.{◌≡◌, Bool, true, false, List, [], ◌∷◌, ℕ, ◌/◌, ◌%◌, ◌≤◌, ◌<◌, length}
+use Rattle.std.specs.Prelude.{if◌then◌else◌, ◌≡◌, Bool, true, false, List, [], ◌∷◌, ℕ, ◌/◌, ◌%◌, ◌≤◌, ◌<◌, length}
 use Rattle.std.proofs.Math.Option.{Option, none, some}
-use Rattle.words.specs.Words.{if◌then◌else◌}
 use Rattle.blank.specs.Blank.{SameBlank}
 use Rattle.config.specs.declared.level.Level.TheVariants.{L2}
 use Rattle.lines.specs.Text.{ascii}

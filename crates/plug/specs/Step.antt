@@ -1,7 +1,6 @@
 -- One record, and runs of them. Assumes nothing: these are definitions.
-use Rattle.std.specs.Prelude.{List, [], ◌∷◌, ℕ, eqb, ltb, length, replicate}
+use Rattle.std.specs.Prelude.{if◌then◌else◌, List, [], ◌∷◌, ℕ, eqb, ltb, length, replicate}
 use Rattle.std.proofs.Math.Option.{Option, none, some}
-use Rattle.words.specs.Words.{if◌then◌else◌}
 use Rattle.memory.specs.Memory.{page}
 use Rattle.memory.specs.Pages.{Store, store_all}
 use Rattle.memory.specs.Program.{bytes_stores}

@@ -1,5 +1,6 @@
 -- How an answer comes into the room and its pages into the flash.
 -- Assumes nothing.
+use Rattle.std.specs.Prelude.{if◌then◌else◌}
 use mathlib.Core.Path.{◌≡◌, refl, sym, ◌∙◌}
 use mathlib.Core.Bool.{Bool, true, false}
 use mathlib.Core.List.{List, []}
@@ -8,7 +9,7 @@ use Prim.Native.Nat.{ℕ, ◌≤◌, ◌<◌}
 use lib.Dec.{eqb, ltb}
 use lib.ListN.{length}
 use borrow.Author.Tests.{lt-ltb, le-ltb, ltb-false}
-use Rattle.words.specs.Words.{if◌then◌else◌, laid}
+use Rattle.words.specs.Words.{laid}
 use Rattle.words.proofs.WordsLaws.{overlay_none}
 use Rattle.memory.specs.Pages.{Store, store_all}
 use Rattle.plug.specs.declared.board.Config.{Config}

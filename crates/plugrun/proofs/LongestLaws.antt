@@ -1,5 +1,6 @@
 -- No answer is longer than a display of all flash: a display ends at an address of two bytes.
 -- Assumes nothing.
+use Rattle.std.specs.Prelude.{if◌then◌else◌}
 use mathlib.Core.Logic.{⊎_elim}
 use mathlib.Core.Path.{◌≡◌, refl}
 use mathlib.Core.Bool.{Bool, true, false, ◌&&◌}
@@ -11,7 +12,7 @@ use lib.Dec.{eqb}
 use lib.ListN.{length, take, drop, length-take, get_or-eq_default}
 use lib.Seq.{get_or-take, get_or-drop}
 use borrow.Author.Tests.{eqb-true, le-ltb}
-use Rattle.words.specs.Words.{if◌then◌else◌, byte_at, high_first}
+use Rattle.words.specs.Words.{byte_at, high_first}
 use Rattle.listing.proofs.LineLaws.{lt_or_ge}
 use Rattle.record.specs.Digits.{all_digits}
 use Rattle.record.specs.Record.{record_mark, character_count, bytes_of, data_of}

@@ -1,5 +1,6 @@
 -- The pieces of a file's text, one after another: each turn gives the next, and after the last none is left.
 -- Assumes nothing.
+use Rattle.std.specs.Prelude.{if◌then◌else◌}
 use mathlib.Core.Logic.{◌⊎◌, inl, inr, ⊎_elim}
 use mathlib.Core.Path.{◌≡◌, refl, sym, ap, subst, ◌∙◌}
 use mathlib.Core.Bool.{Bool, true, false}
@@ -10,7 +11,7 @@ use native.Mathlib.Omega.{arith}
 use lib.Dec.{ltb}
 use lib.ListN.{length, take, drop, get_or, length-drop}
 use lib.Seq.{ext_get_or}
-use Rattle.words.specs.Words.{if◌then◌else◌, laid}
+use Rattle.words.specs.Words.{laid}
 use Rattle.words.proofs.WordsLaws.{length_overlay}
 use Rattle.lines.specs.Line.{records_line, refused_line, most_refused_line}
 use Rattle.lines.specs.Room.{put, put_end, Stands}

@@ -1,7 +1,7 @@
 -- One turn of the run as the code gives it: the next record of the file is taken. Assumes nothing: these are definitions and
 -- statements.
-use Rattle.std.specs.Prelude.{◌≡◌, List, [], ◌∷◌, ◌++◌, ℕ, ◌+◌, ◌≤◌, ◌<◌, ltb, length, take, drop, get_or}
-use Rattle.words.specs.Words.{if◌then◌else◌, overlay}
+use Rattle.std.specs.Prelude.{if◌then◌else◌, ◌≡◌, List, [], ◌∷◌, ◌++◌, ℕ, ◌+◌, ◌≤◌, ◌<◌, ltb, length, take, drop, get_or}
+use Rattle.words.specs.Words.{overlay}
 use Rattle.lines.specs.Line.{head_line, most_head}
 use Rattle.memory.specs.Pages.{store_all}
 use Rattle.listing.specs.Records.{Span, span, most_file, records_from, first_met}

@@ -1,6 +1,5 @@
 -- What the serial plug's program writes for the file of records that it reads, and examples of it, proved in proofs/ExamplesHold.antt.
-use Rattle.std.specs.Prelude.{◌≡◌, List, [], ◌∷◌, ◌++◌, ℕ, suc, ◌+◌, ◌-◌, ◌*◌, ◌≤◌, ◌<◌, ltb, length, take, drop, true, false}
-use Rattle.words.specs.Words.{if◌then◌else◌}
+use Rattle.std.specs.Prelude.{if◌then◌else◌, ◌≡◌, List, [], ◌∷◌, ◌++◌, ℕ, suc, ◌+◌, ◌-◌, ◌*◌, ◌≤◌, ◌<◌, ltb, length, take, drop, true, false}
 use Rattle.lines.specs.Text.{ascii, decimal, hex_digit}
 use Rattle.lines.specs.Line.{word_text, head_line, records_line, refused_line}
 use Rattle.lines.specs.declared.line.Word.{Word}

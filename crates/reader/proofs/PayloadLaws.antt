@@ -1,5 +1,6 @@
 -- What a judgement tells of a payload, and what the reader answers for it.
 -- Assumes nothing.
+use Rattle.std.specs.Prelude.{if◌then◌else◌}
 use mathlib.Core.Path.{◌≡◌, refl, ap, subst}
 use mathlib.Core.Bool.{Bool, true, false}
 use mathlib.Core.List.{List}
@@ -7,7 +8,6 @@ use mathlib.Core.Option.{Option, none, some}
 use Prim.Native.Nat.{ℕ}
 use lib.ListN.{length}
 use native.Mathlib.Omega.{arith}
-use Rattle.words.specs.Words.{if◌then◌else◌}
 use Rattle.command.specs.Form.{form, form_of}
 use Rattle.command.specs.declared.form.Form.TheVariants as F
 use Rattle.command.specs.Address.{bad_address}

@@ -1,8 +1,7 @@
 -- A payload judged: "form, .. address .., and for program at last its whole length", and where its parts lie. The level, which 01 has between
 -- form and address, stops a command whatever is said of it here. Assumes nothing: these are definitions and a statement.
-use Rattle.std.specs.Prelude.{◌≡◌, true, false, List, ℕ, length}
+use Rattle.std.specs.Prelude.{if◌then◌else◌, ◌≡◌, true, false, List, ℕ, length}
 use Rattle.std.proofs.Math.Option.{Option, none, some}
-use Rattle.words.specs.Words.{if◌then◌else◌}
 use Rattle.command.specs.Form.{form}
 use Rattle.command.specs.Address.{bad_address}
 use Rattle.command.specs.Transfer.{transfer_of, wrong_transfer, bad_length}

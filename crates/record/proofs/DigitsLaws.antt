@@ -1,5 +1,6 @@
 -- Laws of hex digits: the three ranges that they come from, and what pairs of them are worth.
 -- Assumes nothing.
+use Rattle.std.specs.Prelude.{if◌then◌else◌}
 use mathlib.Core.Path.{◌≡◌, refl}
 use mathlib.Core.Bool.{Bool, true, false, not, ◌&&◌}
 use mathlib.Core.List.{List, [], ◌∷◌}
@@ -9,7 +10,7 @@ use native.Mathlib.Omega.{arith}
 use lib.Dec.{eqb, leb}
 use lib.ListN.{length}
 use borrow.Author.Tests.{leb-true, ne_eqb}
-use Rattle.words.specs.Words.{if◌then◌else◌, byte_at}
+use Rattle.words.specs.Words.{byte_at}
 use Rattle.record.specs.Digits.{no_digit, from_to, digit_value, is_digit, all_digits}
 use Rattle.record.specs.Record.{pairs}
 

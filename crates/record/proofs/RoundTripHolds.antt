@@ -1,5 +1,6 @@
 -- The statements of specs/RoundTrip.antt hold.
 -- Assumes nothing.
+use Rattle.std.specs.Prelude.{if◌then◌else◌}
 use mathlib.Core.Path.{◌≡◌, refl, sym, ap, ◌∙◌, subst}
 use mathlib.Core.Bool.{Bool, true, false, ◌&&◌}
 use mathlib.Core.List.{List, [], ◌∷◌, ◌++◌}
@@ -9,7 +10,7 @@ use lib.Dec.{eqb, ltb}
 use lib.ListN.{length, take, drop, length-append, length-drop}
 use lib.Seq.{take_at, take_all, drop-cons, length-take-le, take-suc, get_or-drop}
 use borrow.Author.Tests.{eqb-true, eq-eqb, ltb-false, le-ltb}
-use Rattle.words.specs.Words.{if◌then◌else◌, byte_at, high_first, overlay}
+use Rattle.words.specs.Words.{byte_at, high_first, overlay}
 use Rattle.words.proofs.WordsLaws.{overlay_front}
 use Rattle.lines.proofs.TextLaws.{length_hex_bytes}
 use Rattle.record.specs.Digits.{all_digits}

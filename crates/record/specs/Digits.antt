@@ -1,7 +1,6 @@
 -- P2 of 02: "Character values come from a table of 256 entries, one for each character, whose rule is proved once over all of them;
 -- small letters are accepted." Assumes nothing: these are definitions.
-use Rattle.std.specs.Prelude.{Bool, true, not, ◌&&◌, List, [], ◌∷◌, ℕ, zero, suc, ◌-◌, eqb, leb}
-use Rattle.words.specs.Words.{if◌then◌else◌}
+use Rattle.std.specs.Prelude.{if◌then◌else◌, Bool, true, not, ◌&&◌, List, [], ◌∷◌, ℕ, zero, suc, ◌-◌, eqb, leb}
 
 -- how many characters there are, and the mark of one that is no hex digit
 abbrev pub characters : ℕ

@@ -1,6 +1,6 @@
 -- The record reader. Assumes nothing: these are definitions.
-use Rattle.std.specs.Prelude.{◌≡◌, Bool, true, ◌&&◌, List, [], ℕ, ◌-◌, ◌/◌, ◌%◌, min, eqb, ltb, length, drop}
-use Rattle.words.specs.Words.{if◌then◌else◌, byte_at, high_first, overlay}
+use Rattle.std.specs.Prelude.{if◌then◌else◌, ◌≡◌, Bool, true, ◌&&◌, List, [], ℕ, ◌-◌, ◌/◌, ◌%◌, min, eqb, ltb, length, drop}
+use Rattle.words.specs.Words.{byte_at, high_first, overlay}
 use Rattle.record.specs.Digits.{all_digits}
 use Rattle.record.specs.Record.{record_mark, most_data, character_count, sum, bytes_of, data_of}
 pub use Rattle.record.specs.declared.fields.Fields.{Fields}

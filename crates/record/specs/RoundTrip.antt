@@ -1,6 +1,6 @@
 -- The record writer and the record reader undo each other. The statements are proved in proofs/RoundTripHolds.antt.
-use Rattle.std.specs.Prelude.{◌≡◌, List, [], ◌∷◌, ℕ, ◌-◌, ◌≤◌, ◌<◌, length, take}
-use Rattle.words.specs.Words.{if◌then◌else◌, byte_at}
+use Rattle.std.specs.Prelude.{if◌then◌else◌, ◌≡◌, List, [], ◌∷◌, ℕ, ◌-◌, ◌≤◌, ◌<◌, length, take}
+use Rattle.words.specs.Words.{byte_at}
 use Rattle.record.specs.Digits.{from_to}
 use Rattle.record.specs.Record.{data_of}
 use Rattle.record.specs.Reader.{Fields, Taken, reading}

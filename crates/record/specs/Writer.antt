@@ -1,6 +1,6 @@
 -- The host's record writer. Assumes nothing: these are definitions.
-use Rattle.std.specs.Prelude.{List, ℕ, ltb, length}
-use Rattle.words.specs.Words.{if◌then◌else◌, overlay}
+use Rattle.std.specs.Prelude.{if◌then◌else◌, List, ℕ, ltb, length}
+use Rattle.words.specs.Words.{overlay}
 use Rattle.record.specs.Record.{record_of, most_data}
 pub use Rattle.record.specs.declared.writer.Written.{Written}
 pub use Rattle.record.specs.declared.writer.Written.TheVariants.{Wrote, Unwritten}

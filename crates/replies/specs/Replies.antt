@@ -1,6 +1,6 @@
 -- Answers as the code has them: without characters, `.` CR LF, and a display. Assumes nothing: these are definitions and a statement.
-use Rattle.std.specs.Prelude.{◌≡◌, List, ℕ, ◌≤◌, ◌<◌, eqb, ltb, length}
-use Rattle.words.specs.Words.{if◌then◌else◌, fits}
+use Rattle.std.specs.Prelude.{if◌then◌else◌, ◌≡◌, List, ℕ, ◌≤◌, ◌<◌, eqb, ltb, length}
+use Rattle.words.specs.Words.{fits}
 use Rattle.plug.specs.declared.board.Config.{Config}
 use Rattle.plug.specs.declared.answer.Outcome.{Outcome}
 use Rattle.plug.specs.declared.answer.Outcome.TheVariants.{Answered, Refused}

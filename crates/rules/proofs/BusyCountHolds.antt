@@ -1,6 +1,7 @@
 -- The statements of specs/Busy.antt on the busy count hold: what becomes of it, and where it stands. Each goes through the rules once, a test
 -- at a time.
 -- Assumes nothing.
+use Rattle.std.specs.Prelude.{if◌then◌else◌}
 use mathlib.Core.Logic.{◌⊎◌, inl, inr}
 use mathlib.Core.Path.{◌≡◌, refl, sym, ap, ◌∙◌, subst}
 use mathlib.Core.Bool.{Bool, true, false, ◌||◌, ◌&&◌, and-false}
@@ -11,7 +12,7 @@ use native.Mathlib.Omega.{arith}
 use lib.Dec.{eqb, ltb}
 use lib.ListN.{length}
 use borrow.Author.Tests.{eqb-true, ltb-false}
-use Rattle.words.specs.Words.{if◌then◌else◌, among}
+use Rattle.words.specs.Words.{among}
 use Rattle.blank.specs.Blank.{used_in}
 use Rattle.config.specs.Level.{level}
 use Rattle.command.specs.Form.{form}

@@ -1,5 +1,6 @@
 -- The other statements of specs/Busy.antt hold: GETSTATUS, state 4, starts, and which counts are admitted.
 -- Assumes nothing.
+use Rattle.std.specs.Prelude.{if◌then◌else◌}
 use mathlib.Core.Path.{◌≡◌, refl}
 use mathlib.Core.Bool.{Bool, true, false, not, ◌||◌, or-true}
 use mathlib.Core.List.{List, []}
@@ -8,7 +9,7 @@ use native.Mathlib.Omega.{arith}
 use lib.Dec.{eqb, ltb}
 use lib.ListN.{length}
 use borrow.Author.Tests.{lt-ltb, le-ltb, ne_eqb}
-use Rattle.words.specs.Words.{if◌then◌else◌, among}
+use Rattle.words.specs.Words.{among}
 use Rattle.memory.specs.Memory.{flash_size, eeprom_size}
 use Rattle.rules.specs.Result.{Board, Result}
 use Rattle.rules.specs.Commands.{stall}

@@ -1,12 +1,13 @@
 -- What the proofs of DNLOAD share: each way through `obey`, `end_download` and `dnload`.
 -- Assumes nothing.
+use Rattle.std.specs.Prelude.{if◌then◌else◌}
 use mathlib.Core.Path.{◌≡◌, refl}
 use mathlib.Core.Bool.{Bool, true, false, ◌&&◌, and-false}
 use mathlib.Core.List.{List, []}
 use Prim.Native.Nat.{ℕ, ◌≤◌, ◌<◌}
 use lib.Dec.{eqb}
 use borrow.Author.Tests.{eq-eqb, ne_eqb, lt-ltb, le-ltb}
-use Rattle.words.specs.Words.{if◌then◌else◌, among}
+use Rattle.words.specs.Words.{among}
 use Rattle.memory.specs.declared.address.FlashAddress.{FlashAddress}
 use Rattle.config.specs.declared.config.Config.{Config}
 use Rattle.command.specs.Form.{form}

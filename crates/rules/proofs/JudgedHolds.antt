@@ -1,5 +1,6 @@
 -- The statement of specs/Judged.antt holds: form, level, address and length ask the same of both transfers.
 -- Assumes nothing.
+use Rattle.std.specs.Prelude.{if◌then◌else◌}
 use mathlib.Core.Path.{◌≡◌, refl}
 use mathlib.Core.Bool.{Bool, true, false}
 use mathlib.Core.List.{List}
@@ -9,7 +10,7 @@ use native.Mathlib.Omega.{arith}
 use lib.Dec.{leb}
 use lib.ListN.{length}
 use borrow.Author.Tests.{lt-leb}
-use Rattle.words.specs.Words.{if◌then◌else◌, high_first}
+use Rattle.words.specs.Words.{high_first}
 use Rattle.memory.specs.Memory.{flash_address, eeprom_address, flash_size, eeprom_size}
 use Rattle.config.specs.Level.{level}
 use Rattle.command.specs.Form.{form}

@@ -1,6 +1,7 @@
 -- The statements of specs/LevelTwo.antt hold. One request is answered alike by two boards with the same blank bytes, as data, and
 -- at level 2 it either moves no memory and stays at level 2, or is an accepted full chip erase; runs follow by induction.
 -- Assumes nothing.
+use Rattle.std.specs.Prelude.{if◌then◌else◌}
 use mathlib.Core.Path.{◌≡◌, refl, sym, ap, ◌∙◌, subst}
 use mathlib.Core.Bool.{Bool, true, false, and-false}
 use mathlib.Core.List.{List, [], ◌∷◌}
@@ -10,7 +11,6 @@ use native.Mathlib.Omega.{arith}
 use lib.Dec.{lit<, lit≤, eqb}
 use lib.ListN.{length, get_or}
 use borrow.Author.Tests.{le-ltb, lt-leb}
-use Rattle.words.specs.Words.{if◌then◌else◌}
 use Rattle.memory.specs.Memory.{flash_size, eeprom_size, last_flash, flash_address, blank_flash}
 use Rattle.memory.specs.Pages.{chip_stores}
 use Rattle.blank.specs.Blank.{used_in}

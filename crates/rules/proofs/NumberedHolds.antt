@@ -1,5 +1,6 @@
 -- A setup that is taken for a request has the request's numbers: each row of the list says which.
 -- Assumes nothing.
+use Rattle.std.specs.Prelude.{if◌then◌else◌}
 use mathlib.Core.Path.{◌≡◌, refl}
 use mathlib.Core.Bool.{Bool, true, false, ◌&&◌, and-eq-true_iff}
 use mathlib.Core.List.{List, [], ◌∷◌}
@@ -7,7 +8,7 @@ use Prim.Native.Nat.{ℕ, ◌+◌, ◌*◌, ◌<◌}
 use native.Mathlib.Omega.{arith}
 use lib.Dec.{eqb, lit<}
 use borrow.Author.Tests.{eqb-true}
-use Rattle.words.specs.Words.{if◌then◌else◌, byte_at, high_first}
+use Rattle.words.specs.Words.{byte_at, high_first}
 use Rattle.rules.specs.Requests.{Request, Dnload, Upload, GetStatus, GetState, ClrStatus, Abort, Other}
 use Rattle.rules.specs.Requests.{w_value, w_index, w_length, plainly, request_row, request_of}
 use Rattle.rules.specs.Numbered.{request_numbers, request_length, Asks, RequestsNumbered}

@@ -1,5 +1,6 @@
 -- The list of requests holds: each setup is computed, and one that is not `Other` is taken apart into its bytes.
 -- Assumes nothing.
+use Rattle.std.specs.Prelude.{if◌then◌else◌}
 use mathlib.Core.Logic.{◌⊎◌, inl, inr}
 use mathlib.Core.Path.{◌≡◌, refl, sym, ◌∙◌, subst}
 use mathlib.Core.Bool.{Bool, true, false, ◌&&◌}
@@ -9,7 +10,7 @@ use native.Mathlib.Omega.{arith}
 use lib.Dec.{eqb, lit<}
 use lib.ListN.{length}
 use borrow.Author.Tests.{eqb-true}
-use Rattle.words.specs.Words.{if◌then◌else◌, byte_at, high_first}
+use Rattle.words.specs.Words.{byte_at, high_first}
 use Rattle.command.specs.Rows.{Bytes}
 use Rattle.command.proofs.BytesLaws.{spelled, exact}
 use Rattle.rules.specs.Requests.{Request, Dnload, Upload, GetStatus, GetState, ClrStatus, Abort, Other, request_of, plainly, w_value, w_index, w_length}

@@ -1,6 +1,7 @@
 -- Every answer has one of three shapes: a refusal; a reply that changes neither memory nor configuration; or what an accepted
 -- command does. This is the one walk through the rules: the laws of effects and of level 2 go by its cases.
 -- Assumes nothing.
+use Rattle.std.specs.Prelude.{if◌then◌else◌}
 use mathlib.Core.Path.{◌≡◌, refl, sym, ap, ◌∙◌, subst}
 use mathlib.Core.Bool.{Bool, true, false, ◌&&◌}
 use mathlib.Core.List.{List, []}
@@ -10,7 +11,7 @@ use native.Mathlib.Omega.{arith}
 use lib.Dec.{eqb, ltb}
 use lib.ListN.{length}
 use borrow.Author.Tests.{eqb-true, not-false}
-use Rattle.words.specs.Words.{if◌then◌else◌, among}
+use Rattle.words.specs.Words.{among}
 use Rattle.memory.specs.Memory.{flash_size, eeprom_size}
 use Rattle.config.specs.Level.{level}
 use Rattle.command.specs.Form.{form}

@@ -1,7 +1,6 @@
 -- A result as the code gives it: the answer, and each lent memory after it. Assumes nothing: these are definitions.
-use Rattle.std.specs.Prelude.{◌≡◌, false, List, [], ℕ, ◌+◌, ◌-◌, ◌≤◌, ◌<◌, length}
+use Rattle.std.specs.Prelude.{if◌then◌else◌, ◌≡◌, false, List, [], ℕ, ◌+◌, ◌-◌, ◌≤◌, ◌<◌, length}
 use Rattle.std.proofs.Math.Option.{some}
-use Rattle.words.specs.Words.{if◌then◌else◌}
 use Rattle.config.specs.Level.{level}
 use Rattle.memory.specs.Memory.{flash_size, eeprom_size, flash_address, eeprom_address, range_start, range_end, memory_size}
 use Rattle.memory.specs.declared.address.Range.{Range}

@@ -1,8 +1,8 @@
 -- P5 of 02, "Busy is busy", said of every board and every request: what becomes of the busy page count, which proofs/BusyCountHolds.antt
 -- proves; then what GETSTATUS tells, what works in state 4, and which counts are admitted, proved in proofs/BusyHolds.antt.
-use Rattle.std.specs.Prelude.{◌⊎◌, ◌≡◌, Bool, true, false, List, [], ◌∷◌, ℕ, ◌+◌, ◌*◌, ◌≤◌, ◌<◌, eqb}
+use Rattle.std.specs.Prelude.{if◌then◌else◌, ◌⊎◌, ◌≡◌, Bool, true, false, List, [], ◌∷◌, ℕ, ◌+◌, ◌*◌, ◌≤◌, ◌<◌, eqb}
 use Rattle.std.proofs.Math.Option.{Option, none, some}
-use Rattle.words.specs.Words.{if◌then◌else◌, among}
+use Rattle.words.specs.Words.{among}
 use Rattle.memory.specs.declared.address.FlashAddress.{FlashAddress}
 use Rattle.command.specs.declared.command.Command.{Command}
 use Rattle.rules.specs.Session.{Session, StartKind, Nothing, Start}

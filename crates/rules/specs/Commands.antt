@@ -1,7 +1,6 @@
 -- What the board does with a command. Assumes nothing: these are definitions.
-use Rattle.std.specs.Prelude.{Bool, not, List, [], ◌∷◌, ℕ, eqb, length}
+use Rattle.std.specs.Prelude.{if◌then◌else◌, Bool, not, List, [], ◌∷◌, ℕ, eqb, length}
 use Rattle.std.proofs.Math.Option.{Option, none, some}
-use Rattle.words.specs.Words.{if◌then◌else◌}
 use Rattle.memory.specs.Memory.{flash_address}
 use Rattle.memory.specs.Pages.{Store, program_stores, block_stores, chip_stores}
 use Rattle.blank.specs.Blank.{used_in, used_status}

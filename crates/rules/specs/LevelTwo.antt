@@ -1,9 +1,8 @@
 -- What level 2 gives away of the flash. 01 calls this demand 3 and does not spell it out: it has "Demand 3 is stated over demand
 -- 2's definition", and "demand 3's converse". Two boards with the same blank bytes can't be told apart; the converse is that two
 -- with different ones can. Proved in proofs/LevelTwoHolds.antt.
-use Rattle.std.specs.Prelude.{◌≡◌, Bool, true, false, List, [], ◌∷◌, ℕ, ◌/◌, ◌%◌, ◌<◌, length}
+use Rattle.std.specs.Prelude.{if◌then◌else◌, ◌≡◌, Bool, true, false, List, [], ◌∷◌, ℕ, ◌/◌, ◌%◌, ◌<◌, length}
 use Rattle.std.proofs.Math.Option.{Option, none, some}
-use Rattle.words.specs.Words.{if◌then◌else◌}
 use Rattle.memory.specs.Memory.{flash_size}
 use Rattle.blank.specs.Blank.{SameBlank}
 use Rattle.config.specs.Level.{level}

@@ -1,6 +1,6 @@
 -- The paper's table of levels: a row for what a command does, a column for each level. Assumes nothing: these are definitions.
-use Rattle.std.specs.Prelude.{[], ◌∷◌, ℕ, eqb}
-use Rattle.words.specs.Words.{if◌then◌else◌, among}
+use Rattle.std.specs.Prelude.{if◌then◌else◌, [], ◌∷◌, ℕ, eqb}
+use Rattle.words.specs.Words.{among}
 use Rattle.config.specs.Config.{ssb_index}
 use Rattle.config.specs.declared.level.Level.{Level}
 use Rattle.config.specs.declared.level.Level.TheVariants.{L0, L1, L2}

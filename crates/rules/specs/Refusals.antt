@@ -1,6 +1,6 @@
 -- The paper's "Numbered refusals", 1 to 7. Assumes nothing: these are definitions.
-use Rattle.std.specs.Prelude.{Bool, false, not, ◌||◌, List, [], ◌∷◌, ℕ, eqb, leb, ltb, length}
-use Rattle.words.specs.Words.{if◌then◌else◌, among, byte_at}
+use Rattle.std.specs.Prelude.{if◌then◌else◌, Bool, false, not, ◌||◌, List, [], ◌∷◌, ℕ, eqb, leb, ltb, length}
+use Rattle.words.specs.Words.{among, byte_at}
 use Rattle.memory.specs.Memory.{flash_size, eeprom_size}
 use Rattle.command.specs.Address.{bad_range, past_flash}
 use Rattle.rules.specs.Session.{Session, Pending, Nothing, MemoryRead, BlankReport, OneByte, Start}

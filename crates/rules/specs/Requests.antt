@@ -1,6 +1,6 @@
 -- The paper's "Requests". Assumes nothing: these are definitions.
-use Rattle.std.specs.Prelude.{Bool, true, false, ◌&&◌, List, [], ◌∷◌, ◌++◌, ℕ, ◌+◌, ◌*◌, ◌/◌, ◌%◌, eqb, ltb, take}
-use Rattle.words.specs.Words.{if◌then◌else◌, among, high_first, low_first, part}
+use Rattle.std.specs.Prelude.{if◌then◌else◌, Bool, true, false, ◌&&◌, List, [], ◌∷◌, ◌++◌, ℕ, ◌+◌, ◌*◌, ◌/◌, ◌%◌, eqb, ltb, take}
+use Rattle.words.specs.Words.{among, high_first, low_first, part}
 use Rattle.memory.specs.Memory.{flash_address, eeprom_address, range_count}
 use Rattle.config.specs.Level.{level}
 use Rattle.memory.specs.declared.address.Range.{Range}

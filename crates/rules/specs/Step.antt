@@ -1,6 +1,5 @@
 -- One request or power-up, and runs of them. Assumes nothing: these are definitions and a statement.
-use Rattle.std.specs.Prelude.{◌≡◌, List, [], ◌∷◌, ℕ, eqb, replicate}
-use Rattle.words.specs.Words.{if◌then◌else◌}
+use Rattle.std.specs.Prelude.{if◌then◌else◌, ◌≡◌, List, [], ◌∷◌, ℕ, eqb, replicate}
 use Rattle.memory.specs.Memory.{blank_flash, eeprom_size}
 use Rattle.config.specs.Config.{delivered_config}
 use Rattle.config.specs.declared.config.Config.{Config}

@@ -1,5 +1,6 @@
 -- The statements of specs/RoundTrip.antt hold.
 -- Assumes nothing.
+use Rattle.std.specs.Prelude.{if◌then◌else◌}
 use mathlib.Core.Path.{◌≡◌, refl, sym, ap, ◌∙◌, subst}
 use mathlib.Core.Bool.{Bool, true, false}
 use mathlib.Core.List.{List, [], ◌∷◌, ◌++◌, append_assoc, append-nil}
@@ -10,7 +11,7 @@ use lib.Dec.{T, ltb, ltb→lt}
 use lib.ListN.{length, take, drop, length-append, length-replicate, length-drop, take-append-drop}
 use lib.Seq.{take_at, drop_at, take-length, drop-length, drop-cons, length-take-le, take-add}
 use borrow.Author.Tests.{eq-eqb, le-leb, le-ltb, not-false}
-use Rattle.words.specs.Words.{if◌then◌else◌, count, byte_at, high_first, overlay}
+use Rattle.words.specs.Words.{count, byte_at, high_first, overlay}
 use Rattle.words.proofs.WordsLaws.{overlay_front}
 use Rattle.config.specs.Config.{readable, writable}
 use Rattle.memory.specs.declared.address.FlashAddress.{FlashAddress}

@@ -1,6 +1,6 @@
 -- The host's command writer. Assumes nothing: these are definitions.
-use Rattle.std.specs.Prelude.{◌≡◌, Bool, false, not, ◌||◌, List, [], ◌∷◌, ◌++◌, ℕ, ◌+◌, ◌-◌, ◌/◌, ◌%◌, ◌≤◌, eqb, ltb, length, take, replicate}
-use Rattle.words.specs.Words.{if◌then◌else◌, overlay}
+use Rattle.std.specs.Prelude.{if◌then◌else◌, ◌≡◌, Bool, false, not, ◌||◌, List, [], ◌∷◌, ◌++◌, ℕ, ◌+◌, ◌-◌, ◌/◌, ◌%◌, ◌≤◌, eqb, ltb, length, take, replicate}
+use Rattle.words.specs.Words.{overlay}
 use Rattle.memory.specs.declared.address.Range.{Range}
 use Rattle.memory.specs.declared.address.Range.TheVariants.{Flash, Eeprom}
 use Rattle.memory.specs.Memory.{range_start, range_end}

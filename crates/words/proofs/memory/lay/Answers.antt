@@ -5,7 +5,7 @@ use Rattle.std.proofs.Common.{◌≡◌, ℕ, ◌+◌, ◌-◌, ◌≤◌, ◌<�
 use Rattle.std.proofs.Math.Seq.{drop-drop, take_at}
 use borrow.Author.Tests.{le-leb, lt-leb}
 use borrow.Rule.Slice.PartMut.{put_mid}
-use Rattle.words.specs.Words.{fits, laid}
+use Rattle.words.specs.Words.{laid}
 use Rattle.words.proofs.memory.lay.Goals as goal
 
 -- bytes that do not fit are not laid
@@ -34,6 +34,6 @@ pub returns-then-n-gt-HELD-clause-memory_after : goal.returns-then-n-gt-HELD-cla
 returns-then-n-gt-HELD-clause-memory_after c = is_laid _ _ _ _ (omega arith) c.copy_from_slice.ensures.after
 
 pub returns-clause-memory_after : goal.returns-clause-memory_after
-returns-clause-memory_after c = 
+returns-clause-memory_after c =
     is_laid _ _ _ _ (omega arith)
     (c.copy_from_slice-3.ensures.after ∙ front _ _ _ c.copy_from_slice-2.ensures.after)
