@@ -1,0 +1,14 @@
+-- `job::verdict::check_job` meets its contract: 16 first of all, then the fields of the whole file, at the definition's bound.
+-- Assumes nothing.
+use Rattle.std.proofs.Common.{arith}
+use borrow.Author.Tests.{lt-ltb, le-ltb}
+use Rattle.job.specs.Verdict.{verdict}
+use Rattle.job.proofs.verdict.check_job.Goals as goal
+
+pub returns-then-file-gt-MOST_FILE : goal.returns-then-file-gt-MOST_FILE
+unfolding verdict
+returns-then-file-gt-MOST_FILE c = simp (lt-ltb _ _ c.if-file-gt-MOST_FILE.true)
+
+pub returns : goal.returns
+unfolding verdict
+returns c = simp (le-ltb _ _ c.if-file-gt-MOST_FILE.false) (c.read_fields.ensures _ (omega arith))
