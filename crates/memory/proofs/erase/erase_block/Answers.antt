@@ -1,0 +1,56 @@
+-- `memory::erase::erase_block` meets its contract: the pages of a block, stored FFh, are the stores of its range.
+-- Assumes nothing.
+use Rattle.std.proofs.Common.{◌≡◌, ℕ, ◌∙◌, length, List, sym}
+use borrow.Author.Tests.{eq-eqb, ne_eqb}
+use Rattle.words.specs.Words.{overlay}
+use Rattle.memory.specs.Memory.{flash_size}
+use Rattle.memory.specs.Pages.{Block, Low, Middle, High, store_all, pages_met, block_start, block_end, block_fF}
+use Rattle.memory.specs.Erase.{block_erase}
+use Rattle.memory.proofs.PagesLaws.{store_all_block_stores, length_block_stores}
+use Rattle.memory.proofs.erase.erase_block.Goals as goal
+
+none_erased : (k : Block) (m : List ℕ) → (length m ≡ flash_size → ⊥) → 0 ≡ length (block_erase k m)
+unfolding block_erase
+none_erased k m h = rw (ne_eqb (length m) flash_size h)
+
+not_erased : (k : Block) (m : List ℕ) → (length m ≡ flash_size → ⊥) → m ≡ store_all (block_erase k m) m
+unfolding block_erase
+not_erased k m h = rw (ne_eqb (length m) flash_size h)
+
+-- k is the block k₀, whose pages were stored
+count_erased : (k k₀ : Block) (m : List ℕ) (r : ℕ) → k ≡ k₀ → length m ≡ flash_size → r ≡ pages_met (block_start k₀) (block_end k₀)
+    → r ≡ length (block_erase k m)
+unfolding block_erase
+count_erased k k₀ m r q h p = rw (q, eq-eqb (length m) flash_size h) (p ∙ sym (length_block_stores k₀ m))
+
+erased : (k k₀ : Block) (m m' : List ℕ) → k ≡ k₀ → length m ≡ flash_size → m' ≡ overlay (block_start k₀) (block_fF k₀) m
+    → m' ≡ store_all (block_erase k m) m
+unfolding block_erase
+erased k k₀ m m' q h e = rw (q, eq-eqb (length m) flash_size h) (e ∙ sym (store_all_block_stores k₀ m h))
+
+pub returns-then-flash-ne-FLASH_SIZE-clause-value : goal.returns-then-flash-ne-FLASH_SIZE-clause-value
+returns-then-flash-ne-FLASH_SIZE-clause-value c = none_erased _ _ c.if-flash-ne-FLASH_SIZE.true
+
+pub returns-then-flash-ne-FLASH_SIZE-clause-flash_after : goal.returns-then-flash-ne-FLASH_SIZE-clause-flash_after
+returns-then-flash-ne-FLASH_SIZE-clause-flash_after c = not_erased _ _ c.if-flash-ne-FLASH_SIZE.true
+
+pub returns-in-Low-clause-value : goal.returns-in-Low-clause-value
+returns-in-Low-clause-value c = count_erased _ Low _ _ c.in-Low.is c.if-flash-ne-FLASH_SIZE.false c.erase_pages.ensures.value
+
+pub returns-in-Low-clause-flash_after : goal.returns-in-Low-clause-flash_after
+returns-in-Low-clause-flash_after c = erased _ Low _ _ c.in-Low.is c.if-flash-ne-FLASH_SIZE.false c.erase_pages.ensures.flash_after
+
+pub returns-in-Middle-clause-value : goal.returns-in-Middle-clause-value
+returns-in-Middle-clause-value c =
+    count_erased _ Middle _ _ c.in-Middle.is c.if-flash-ne-FLASH_SIZE.false c.erase_pages-in-Middle.ensures.value
+
+pub returns-in-Middle-clause-flash_after : goal.returns-in-Middle-clause-flash_after
+returns-in-Middle-clause-flash_after c =
+    erased _ Middle _ _ c.in-Middle.is c.if-flash-ne-FLASH_SIZE.false c.erase_pages-in-Middle.ensures.flash_after
+
+pub returns-in-High-clause-value : goal.returns-in-High-clause-value
+returns-in-High-clause-value c = count_erased _ High _ _ c.in-High.is c.if-flash-ne-FLASH_SIZE.false c.erase_pages-in-High.ensures.value
+
+pub returns-in-High-clause-flash_after : goal.returns-in-High-clause-flash_after
+returns-in-High-clause-flash_after c =
+    erased _ High _ _ c.in-High.is c.if-flash-ne-FLASH_SIZE.false c.erase_pages-in-High.ensures.flash_after
