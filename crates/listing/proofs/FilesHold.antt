@@ -6,8 +6,7 @@ use mathlib.Core.Bool.{and-false}
 use lib.Dec.{ltb}
 use borrow.Author.Tests.{eq-eqb, ne_eqb, lt-ltb, le-ltb}
 use Rattle.words.specs.Words.{byte_at}
-use Rattle.bytes.specs.Bytes.{index_of}
-use Rattle.listing.specs.Line.{without_return, starts_erased}
+use Rattle.listing.specs.Line.{index_of, without_return, starts_erased}
 use Rattle.listing.specs.Records.{records_in, records_from, records_of, most_file}
 use Rattle.listing.specs.Files.{Files}
 

@@ -8,11 +8,10 @@ use Prim.Native.Nat.{ℕ, suc, ◌-◌, ◌≤◌, ◌<◌}
 use native.Mathlib.Omega.{arith}
 use lib.Dec.{eqb, ltb}
 use lib.ListN.{length, drop, length-drop}
-use lib.Seq.{drop-cons, drop-drop, take-length}
+use lib.Seq.{drop-cons, drop-drop}
 use borrow.Author.Tests.{ltb-true, ltb-false, eqb-true, lt-ltb, le-ltb, eq-eqb}
-use Rattle.bytes.specs.Bytes.{index_of, index_after, slice}
 use Rattle.words.specs.Words.{byte_at}
-use Rattle.listing.specs.Line.{line_feed, carriage_return, line_end, returns, without_return, is_record, same_bytes}
+use Rattle.listing.specs.Line.{index_of, index_after, line_feed, carriage_return, line_end, returns, without_return, is_record, same_bytes}
 
 pub which : (b : Bool) → (b ≡ true) ⊎ (b ≡ false)
 which true = inl refl
@@ -28,7 +27,7 @@ unfolding index_after
 index_after_le true k n h = omega arith
 index_after_le false k n h = omega arith
 
-index_le : (b : ℕ) (l : List ℕ) → index_of b l ≤ length l
+pub index_le : (b : ℕ) (l : List ℕ) → index_of b l ≤ length l
 unfolding index_of
 index_le b [] = omega arith
 index_le b (x ∷ l) = index_after_le (eqb x b) (index_of b l) (length l) (index_le b l)
@@ -47,11 +46,6 @@ index_again b (x ∷ l) = again (eqb x b) b x l refl (index_again b l)
 index_later : (b x : ℕ) (l : List ℕ) → eqb x b ≡ false → index_of b (x ∷ l) ≡ suc (index_of b l)
 unfolding index_of index_after
 index_later b x l e = rw e
-
--- the part of a file that is searched, up to its end
-pub rest_of : (file : List ℕ) (at : ℕ) → slice at (length file) file ≡ drop at file
-unfolding slice
-rest_of file at = rw (take-length file)
 
 module _ (file : List ℕ) (at : ℕ) where
   pub line_within : at ≤ length file → line_end file at ≤ length file

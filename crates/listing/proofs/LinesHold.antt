@@ -10,9 +10,8 @@ use lib.Dec.{eqb}
 use lib.ListN.{length, drop, get_or, length-drop}
 use lib.Seq.{get_or-drop}
 use borrow.Author.Tests.{eqb-true, eq-eqb}
-use Rattle.bytes.specs.Bytes.{index_of, index_after}
 use Rattle.words.specs.Words.{byte_at}
-use Rattle.listing.specs.Line.{line_feed, line_end, text_end, erased_mark, starts_erased}
+use Rattle.listing.specs.Line.{index_of, index_after, line_feed, line_end, text_end, erased_mark, starts_erased}
 use Rattle.listing.specs.Records.{records_from}
 use Rattle.listing.specs.Lines.{LineAt, RecordsAt, Lines}
 use Rattle.listing.proofs.LineLaws.{line_within, cut, not_cut_empty, not_cut_last, not_cut_other, same_refl, same_equal}

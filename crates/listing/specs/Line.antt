@@ -1,6 +1,5 @@
 -- A line of a file, and whether it is a record. A place is an offset from the start of the file. Assumes nothing: these are definitions.
-use Rattle.std.specs.Prelude.{if◌then◌else◌, Bool, true, false, not, ◌&&◌, List, [], ◌∷◌, ℕ, ◌+◌, ◌-◌, eqb, ltb, length, take, drop}
-use Rattle.bytes.specs.Bytes.{index_of}
+use Rattle.std.specs.Prelude.{if◌then◌else◌, Bool, true, false, not, ◌&&◌, List, [], ◌∷◌, ℕ, suc, ◌+◌, ◌-◌, eqb, ltb, length, take, drop}
 use Rattle.words.specs.Words.{byte_at}
 use Rattle.lines.specs.Text.{ascii}
 
@@ -13,6 +12,15 @@ carriage_return = 13
 
 abbrev pub note_mark : ℕ
 note_mark = 35
+
+-- where a byte stands for the first time, and the length of a list in which it does not
+abbrev pub index_after : Bool → ℕ → ℕ
+index_after true i = 0
+index_after false i = suc i
+
+unfoldable pub index_of : ℕ → List ℕ → ℕ
+index_of b [] = 0
+index_of b (x ∷ l) = index_after (eqb x b) (index_of b l)
 
 -- a line ends with LF or with the file's end: where the LF of the line that begins at a place stands, or else the file's end
 abbrev pub line_end : List ℕ → ℕ → ℕ

@@ -14,7 +14,12 @@ pub(crate) fn line_end(file: &[u8], at: usize) -> usize
     ensures value { result ≡ line_end file.now at }
     ensures lower_bound { (at ≤ result) × (result ≤ length file.now) }
 {
-    bytes::scan::find(file, at, file.len(), LINE_FEED)
+    for i in at..file.len() {
+        if file[i] == LINE_FEED {
+            return i;
+        }
+    }
+    file.len()
 }
 
 // Where its characters end: before the carriage return that stands before the line feed, if there is one.
@@ -51,5 +56,5 @@ pub fn starts_erased(file: &[u8]) -> bool
     ensures { result ≡ starts_erased file.now }
 {
     let end = without_return(file, 0, line_end(file, 0));
-    check::same(&file[..end], b"#erased")
+    file[..end] == b"#erased"[..]
 }
