@@ -43,7 +43,7 @@ loop-pages-preserved c =
     let its = page_blank _ _ _ test inv.0 in (
       inv.0,
       stored_more _ _ _ _ _ _ inv.1 test c.requires.0 (enough _) _ _ c.page_after.ensures its _ _ c.store_whole-pages.ensures.value
-      c.store_whole-pages.ensures.flash_after,
+          c.store_whole-pages.ensures.flash_after,
     )
 
 pub returns-clause-value : goal.returns-clause-value

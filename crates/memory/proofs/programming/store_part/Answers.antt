@@ -1,6 +1,6 @@
 -- `memory::programming::store_part` meets its contract: the page stored with the bytes is the flash with the bytes laid over it.
 -- Assumes nothing.
-use Rattle.std.proofs.Common.{◌≡◌, ◌+◌, ◌*◌, ◌%◌, ◌≤◌, ◌<◌, length, ℕ, List, arith, ◌∙◌}
+use Rattle.std.proofs.Common.{◌≡◌, ◌+◌, ◌*◌, ◌%◌, ◌≤◌, ◌<◌, length, ℕ, arith, ◌∙◌}
 use Rattle.memory.specs.Memory.{page_size}
 use Rattle.memory.proofs.PagesLaws.{length_page_store, store_all_page_store}
 use Rattle.memory.proofs.programming.store_part.Goals as goal
