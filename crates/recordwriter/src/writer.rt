@@ -37,6 +37,7 @@ fn put_record(room: &mut [u8], head: [u8; HEAD_SIZE], bytes: &[u8], checksum: u8
 
 // Writes a record in capitals at the front of the room. Refuses data that no record can carry with 17, and a room that is too short
 // with 9; then the room stays as it was, and otherwise the room past the record does.
+#[tactic(auto, using(record::proofs::RecordLaws::length_record_of), unfolding(record::specs::Writer::write_record, record::specs::Writer::room_written))]
 pub fn write_record(offset: u16, kind: u8, bytes: &[u8], room: &mut [u8]) -> Written
     ensures value { result ≡ write_record offset kind bytes.now room.old }
     ensures room_after { room.new ≡ room_written offset kind bytes.now room.old }
