@@ -159,6 +159,7 @@ fn read_form(sent: &[u8]) -> Form
 }
 
 // The command of a record with this type, load offset and data.
+#[tactic(auto, unfolding(plug::specs::Commands::form))]
 pub fn form_of(kind: u8, offset: u16, sent: &[u8]) -> Form
     ensures { result ≡ form_of (form kind offset sent.now) }
 {
