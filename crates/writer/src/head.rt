@@ -61,6 +61,7 @@ fn block_code(block: Block) -> u8
     }
 }
 
+#[tactic(auto, unfolding(crate::specs::Writer::head_bytes))]
 pub(crate) fn head_of(command: Command) -> Head
     ensures { result ≡ head_of command }
 {

@@ -118,6 +118,7 @@ fn put(head: Head, tail: Tail, body: &[u8], suffix: &[u8], room: &mut [u8]) -> W
 // Writes a command into the room, and answers how many bytes that took; a program transfer with its body and its suffix, at which
 // no other command looks. Refuses a command that the loader would not take with 8, and a room that is too short with 9; then the
 // room stays as it was, and otherwise the room past the answer does.
+#[tactic(auto, unfolding(crate::specs::Writer::write_command, crate::specs::Writer::room_after))]
 pub fn write_command(command: Command, body: &[u8], suffix: &[u8], room: &mut [u8]) -> Written
     ensures value { result ≡ write_command command body.now suffix.now room.old }
     ensures room_after { room.new ≡ room_after command body.now suffix.now room.old }
