@@ -3,14 +3,15 @@
 // its end, and that what is handed on reaches standard output.
 #![tactic(auto)]
 
-ghost use Rattle.std.specs.Prelude.{◌⊎◌, ◌≡◌, suc, length};
+ghost use Rattle.std.specs.Prelude.{◌≡◌, ◌≤◌, suc, length, IfOk};
 ghost use Rattle.listing.specs.Records.{most_file};
 ghost use Rattle.plugrun.specs.Written.{pieces};
 ghost use Rattle.plugrun.specs.Turn.{most_text, IsPiece};
 
-use libc::{STDERR_FILENO, STDIN_FILENO, STDOUT_FILENO};
 use lines::end_of;
 use plugrun::{MOST_ANSWER, MOST_TEXT, Turn, blank_flash, first_line, start, take_turn};
+use std::io;
+use std::io::{Read, Write};
 
 // One byte more than a file may have, so that a longer file is seen to be too long.
 const FILE_ROOM: usize = 1048577;
@@ -28,49 +29,62 @@ fn text_room() -> [u8; MOST_TEXT]
     [0; MOST_TEXT]
 }
 
-// Hands the piece of this number on to standard output; nothing else may be lent to it. Answers the number of the next piece, or 0 where
-// this one could not be written.
-fn write_piece(file: &[u8], number: usize, piece: &[u8]) -> usize
-    requires { IsPiece file.now number piece.now }
-    ensures { (result ≡ 0) ⊎ (result ≡ suc number) }
+// Reads until the room is full or the input ends; answers how many bytes now stand at the front of the room.
+fn read_full<R: Read>(input: &mut R, room: &mut [u8]) -> io::Result<usize>
+    ensures { IfOk result (λ n. n ≤ length room.new) }
 {
-    if !io::write_all(STDOUT_FILENO, piece) {
-        return 0;
+    let mut size = 0;
+    while size < room.len() {
+        let read = input.read(&mut room[size..])?;
+        if read == 0 {
+            break;
+        }
+        size += read;
     }
-    number + 1
+    Ok(size)
 }
 
-// Hands all pieces on, the first line and then the text of each record; answers how many they are, or 0 where one could not be written.
-fn write_pieces(file: &[u8]) -> usize
-    ensures { (result ≡ 0) ⊎ (result ≡ length (pieces file.now)) }
+// Hands the piece of this number on to the output; nothing else may be lent to it. Answers the number of the next piece.
+fn write_piece<W: Write>(
+    output: &mut W,
+    file: &[u8],
+    number: usize,
+    piece: &[u8],
+) -> io::Result<usize>
+    requires { IsPiece file.now number piece.now }
+    ensures { IfOk result (λ next. next ≡ suc number) }
+{
+    output.write_all(piece)?;
+    Ok(number + 1)
+}
+
+// Hands all pieces on, the first line and then the text of each record; answers how many they are.
+fn write_pieces<W: Write>(output: &mut W, file: &[u8]) -> io::Result<usize>
+    ensures { IfOk result (λ n. n ≡ length (pieces file.now)) }
 {
     let mut flash = blank_flash();
     let mut reply = [0; MOST_ANSWER];
     let mut room = text_room();
     let end = end_of(first_line(file, &mut room));
-    let mut number = write_piece(file, 0, &room[..end]);
+    let mut number = write_piece(output, file, 0, &room[..end])?;
     let mut progress = start(file);
-    while number != 0 {
-        match take_turn(file, number, progress, &mut flash, &mut reply, &mut room) {
-            Turn::Took(next, size) => {
-                number = write_piece(file, number, &room[..size]);
-                progress = next;
-            }
-            Turn::AllTaken => {
-                return number;
-            }
-        }
+    while let Turn::Took(next, size) = take_turn(
+        file, number, progress, &mut flash, &mut reply, &mut room,
+    ) {
+        number = write_piece(output, file, number, &room[..size])?;
+        progress = next;
     }
-    0
+    Ok(number)
 }
 
-fn main() {
+fn main(rt: HostRuntime) -> io::Result<()> {
     let mut file = file_room();
-    let size = io::read_full(STDIN_FILENO, &mut file);
-    if write_pieces(&file[..size]) == 0 {
-        io::write_all(
-            STDERR_FILENO,
-            b"plugbench: not all of the answers could be written\n",
-        );
+    let size = read_full(&mut rt.stdin(), &mut file)?;
+    let written = write_pieces(&mut rt.stdout(), &file[..size]);
+    if written.is_err() {
+        rt.stderr()
+            .write_all(b"plugbench: not all of the answers could be written\n")?;
     }
+    written?;
+    Ok(())
 }
