@@ -9,7 +9,7 @@ from statements import Tree
 
 CITED = re.compile(r"\[(`[^`\]]+`|[a-z]+/(?:proofs/)?[A-Z]\w*)\](?!\()")
 BEHIND = re.compile(r"\[(`[^`\]]+`|[a-z]+/(?:proofs/)?[A-Z]\w*)\] (`[^`]+`(?:, `[^`]+`)*)")
-NAMED = re.compile(r"\b[A-Z]\w+|\b[\w′]+-[\w′-]+|\b\w+(?=\(\))")  # statements, laws and functions, in plain words
+NAMED = re.compile(r"\b[A-Z]\w+|\b[a-z]\w*_\w+'*(?!\w|\()|\b\w+(?=\(\))")  # statements, laws and functions, in plain words
 MARK = "<!-- The links. tests/tools/lists.py makes them. -->\n"
 
 

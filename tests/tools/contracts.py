@@ -3,11 +3,12 @@ import re
 
 from promises import block_end, parameters_end
 
-FUNCTION = re.compile(r"(?m)((?:^[ ]*//[^\n]*\n)*)(?:^[ ]*#\[[^\n]*\n)*^[ ]*(?:pub(?:\([a-z]+\))?\s+)?(?:extern\s+\"C\"\s+)?fn\s+(\w+)\s*(?=\()")
+FUNCTION = re.compile(r"(?m)((?:^[ ]*//[^\n]*\n)*)(?:^[ ]*#\[[^\n]*\n)*^[ ]*(?:pub(?:\([a-z]+\))?\s+)?(?:extern\s+\"C\"\s+)?fn\s+(\w+)\s*(?:<[^>]*>)?\s*(?=\()")
 CLAUSE = re.compile(r"\s*(requires|ensures|ghost)\b[^{]*\{")
 RESULT = re.compile(r"\s*(->\s*[^{]*?(?=\s*(?:requires|ensures|ghost|\{)))?")
-IMPORT = re.compile(r"ghost use Rattle·(\w+)(?:·specs)?\.specs\.(\w+)\.\{([^}]*)\}")
-NAME = re.compile(r"(?<![\w′'.-])[A-Za-z][\w′'-]*")
+LIBRARY = "std"  # the toolchain's own definitions, of which no page and no test of the repository speaks
+IMPORT = re.compile(rf"ghost use Rattle\.(?!{LIBRARY}\.)(\w+)\.specs\.(\w+)\.\{{([^}}]*)\}}")
+NAME = re.compile(r"(?<![\w'.])[A-Za-z][\w']*")
 
 
 def contract(text, at):

@@ -30,15 +30,15 @@ class Source:
 
     def __init__(self, given):
         self.given = given
-        self.flash, self.eeprom = [0xFF] * given("memory:flashSize"), [0xFF] * given("eepromSize")
-        self.delivered = given("config:deliveredConfig")
+        self.flash, self.eeprom = [0xFF] * given("memory:flash_size"), [0xFF] * given("eeprom_size")
+        self.delivered = given("config:delivered_config")
 
     def ask(self, request=GETSTATE, length=1, sent=(), state=2, pending=NOTHING, busy=0, ssb=0xFF, **lent):
         """What a board answers to a request; setup, memories and the reply's size are right where others are not lent."""
         session = {"state": state, "status": 0, "pending": pending, "busy": busy}
         memories = {"flash": lent.get("flash", self.flash), "eeprom": lent.get("eeprom", self.eeprom)}
         board = {"session": session, "config": {**self.delivered, "ssb": ssb}, **memories}
-        reply = lent.get("reply", self.given("replySize"))
+        reply = lent.get("reply", self.given("reply_size"))
         return self.given("ask", board, lent.get("setup", setup(request, length)), list(sent), reply)
 
     def refusal(self, **asked):
@@ -51,33 +51,33 @@ class Source:
 
     def sizes(self):
         given = self.given
-        whole_line = len(given("displayLine", 0, given("lineSize") - 1, self.flash))
+        whole_line = len(given("display_line", 0, given("line_size") - 1, self.flash))
         return {
             "SETUP_SIZE": next(n for n in range(99) if self.refusal(setup=setup(GETSTATE, 1)[:n] + [0] * (n - 8)) != 1),
-            "FLASH_SIZE": given("memory:flashSize"),
-            "FLASH_PAGES": given("memory:flashPages"),
-            "PAGE_SIZE": given("pageSize"),
-            "EEPROM_SIZE": given("eepromSize"),
-            "REPLY_SIZE": given("replySize"),
-            "MOST_BYTES": given("mostBytes"),
-            "SUFFIX_SIZE": given("suffixSize"),
-            "MOST_DATA": given("rules:mostData"),
+            "FLASH_SIZE": given("memory:flash_size"),
+            "FLASH_PAGES": given("memory:flash_pages"),
+            "PAGE_SIZE": given("page_size"),
+            "EEPROM_SIZE": given("eeprom_size"),
+            "REPLY_SIZE": given("reply_size"),
+            "MOST_BYTES": given("most_bytes"),
+            "SUFFIX_SIZE": given("suffix_size"),
+            "MOST_DATA": given("rules:most_data"),
             "GETSTATUS_SIZE": len(self.ask(GETSTATUS, 6)["sent"]),
             "GETSTATE_SIZE": len(self.ask(GETSTATE, 1)["sent"]),
-            "MOST_JOB": given("job:mostFile"),
-            "MOST_BUSY": given("mostBusy"),
+            "MOST_JOB": given("job:most_file"),
+            "MOST_BUSY": given("most_busy"),
             "PAGE_TIME": given("timeout", {"state": 3, "busy": 1}),
-            "SERIAL_FLASH_SIZE": given("plug:flashSize"),
-            "SERIAL_FLASH_PAGES": given("plug:flashPages"),
-            "SERIAL_MOST_DATA": given("record:mostData"),
-            "SERIAL_MOST_CHARACTERS": given("characterCount", given("record:mostData")),
-            "SERIAL_MOST_ANSWER": given("lineCount", 0, given("plug:flashSize") - 1) * whole_line,
+            "SERIAL_FLASH_SIZE": given("plug:flash_size"),
+            "SERIAL_FLASH_PAGES": given("plug:flash_pages"),
+            "SERIAL_MOST_DATA": given("record:most_data"),
+            "SERIAL_MOST_CHARACTERS": given("character_count", given("record:most_data")),
+            "SERIAL_MOST_ANSWER": given("line_count", 0, given("plug:flash_size") - 1) * whole_line,
         }
 
     def requests(self):
         """Each number of bmRequestType and bRequest that has a row. DETACH has none, since it stalls as anything else does: 01 has its number."""
         codes = (code for code in range(0x10000) if code % 256 < 16)
-        cases = ((self.given("requestOf", setup(code, length))[0], code) for code in codes for length in (0, 1, 6))
+        cases = ((self.given("request_of", setup(code, length))[0], code) for code in codes for length in (0, 1, 6))
         return {"REQUEST_DETACH": 0x2100, **{f"REQUEST_{case.upper()}": code for case, code in cases if case != "Other"}}
 
     def states(self):
@@ -113,14 +113,14 @@ class Source:
     def refusals(self):
         """Each refusal, by an input of which its cause is the only fault."""
         given = self.given
-        version, long = ("ReadVersion",), [0] * (given("job:mostFile") + 1)
-        written = (given("writer:writtenNumber", given("writeCommand", command, [], [], [])) for command in (("ReadByte", 7), version))
+        version, long = ("ReadVersion",), [0] * (given("job:most_file") + 1)
+        written = (given("writer:written_number", given("write_command", command, [], [], [])) for command in (("ReadByte", 7), version))
         deep = []
-        for _ in range(given("mostDepth") + 1):
+        for _ in range(given("most_depth") + 1):
             deep = [0x02, 0, len(deep), *deep]
         files = {"FIELD_END": [0x01], "FIELD_TAG": [0x09, 0, 0], "GROUP_DEPTH": deep, "REQUEST_SIZE": [0x01, 0, 7, *[0] * 7],
                  "NOTE_SIZE": [0x03, 0, 65, *[0] * 65], "FILE_SIZE": long}
-        plug = {"config": given("plug:deliveredConfig"), "flash": [0xFF] * given("plug:flashSize")}
+        plug = {"config": given("plug:delivered_config"), "flash": [0xFF] * given("plug:flash_size")}
         numbers = {
             "SETUP_SIZE": self.refusal(setup=[]),
             "FLASH_SIZE": self.refusal(flash=[]),
@@ -130,7 +130,7 @@ class Source:
             "SESSION": self.refusal(state=1),
             "APP_RUNS": self.refusal(state=0),
             **dict(zip(("COMMAND", "ROOM"), written)),
-            **{name: given("verdictNumber", given("verdict", file)) for name, file in files.items()},
+            **{name: given("verdict_number", given("verdict", file)) for name, file in files.items()},
             "RECORD": given("plug/Step:step", plug, [0x58], 3)["outcome"][1],
         }
         return {f"REFUSED_{name}": number for name, number in numbers.items()}
@@ -140,9 +140,9 @@ class Source:
         names = {"bsb": "BSB", "sbv": "SBV", "p1cf": "P1_CF", "p3cf": "P3_CF", "p4cf": "P4_CF", "ssb": "SSB", "eb": "EB"}
         marked = dict(zip([*names, "hsb"], range(100, 108)))
         places = {marked[byte]: name for byte, name in names.items()}
-        index = {f"INDEX_{places[self.given('configByte', i, marked)]}": i for i in range(len(names))}
-        given_to = [v for v in range(256) if self.given("levelStatus", ("WriteByte", self.given("ssbIndex"), v), ("L0",)) == 0]
-        levels = {self.given("ssbLevel", v)[0]: v for v in (self.delivered["ssb"], *given_to)}
+        index = {f"INDEX_{places[self.given('config_byte', i, marked)]}": i for i in range(len(names))}
+        given_to = [v for v in range(256) if self.given("level_status", ("WriteByte", self.given("ssb_index"), v), ("L0",)) == 0]
+        levels = {self.given("ssb_level", v)[0]: v for v in (self.delivered["ssb"], *given_to)}
         return {**index, **{f"SSB_LEVEL_{level[1]}": ssb for level, ssb in levels.items()}}
 
     def numbers(self, tables):
@@ -154,11 +154,11 @@ class Source:
             **self.statuses(),
             **self.refusals(),
             **self.configuration(),
-            "SERIAL_WRONG_CHECKSUM": self.given("readingNumber", ("WrongChecksum",)),
+            "SERIAL_WRONG_CHECKSUM": self.given("reading_number", ("WrongChecksum",)),
         }
         delivered = {
-            "loader_delivered": self.given("numbers:packConfig", self.delivered),
-            "serial_delivered": self.given("plugnumbers:packConfig", self.given("plug:deliveredConfig")),
+            "loader_delivered": self.given("numbers:pack_config", self.delivered),
+            "serial_delivered": self.given("plugnumbers:pack_config", self.given("plug:delivered_config")),
         }
         return {**{f"LOADER_{name}": number for name, number in own.items()}, **kinds(tables), **delivered}
 

@@ -18,6 +18,7 @@ NUMBER = re.compile(r"0x[0-9A-F]+|\d+")
 
 
 def tokens(text):
+    """The words of a text. What stands right behind a bracket, as in `(next b r).flash`, is a word that begins with a dot."""
     return [found[1] for found in TOKEN.finditer(text) if found[1]]
 
 
@@ -69,10 +70,7 @@ class Reader:
     def application(self):
         made, handed = self.atom(), []
         while self.at < len(self.words) and self.words[self.at] not in WORDS and self.words[self.at] not in INFIX:
-            if self.words[self.at].startswith("."):
-                made, handed = ("field", ("apply", made, handed) if handed else made, self.next()[1:]), []
-            else:
-                handed.append(self.atom())
+            handed.append(self.atom())
         return ("apply", made, handed) if handed else made
 
     def atom(self):
@@ -80,12 +78,22 @@ class Reader:
         if word == "(":
             inner = self.expression()
             self.next(")")
-            return inner
+            return self.field_of(inner, self.next()[1:]) if self.at < len(self.words) and self.words[self.at].startswith(".") else inner
         if word == "record":
             return self.record()
         if word.startswith('"'):
             return ("text", json.loads(word))
-        return ("number", int(word, 0)) if NUMBER.fullmatch(word) else ("name", word.split(".")[-1])
+        if NUMBER.fullmatch(word):
+            return ("number", int(word, 0))
+        first, _, rest = word.partition(".")
+        # `Command.ReadVersion` is a case by its type, and `b.session.state` a field of a field
+        return self.field_of(("name", first), rest) if rest and first[0].islower() else ("name", word.split(".")[-1])
+
+    def field_of(self, made, fields):
+        """What stands in a field, by the names with dots between them."""
+        for name in fields.split(".") if fields else []:
+            made = ("field", made, name)
+        return made
 
     def record(self):
         self.next("{")
@@ -113,7 +121,7 @@ BUILT_IN = {
     "length": (1, len),
     "take": (2, lambda n, m: m[:n]),
     "drop": (2, lambda n, m: m[n:]),
-    "getD": (3, lambda m, n, other: m[n] if n < len(m) else other),
+    "get_or": (3, lambda m, n, other: m[n] if n < len(m) else other),
     "replicate": (2, lambda n, x: [x] * n),
 }
 SIGNS = {
@@ -171,9 +179,9 @@ class Definitions:
                 bodies = re.findall(rf"(?m)^{re.escape(name)}((?: [^\n]*)?=(?:.|\n(?=[ \t\n}}]|\Z))*)", text)
                 self.files.setdefault(name, []).append((crate, file))
                 self.clauses[crate, file, name] = bodies
-            self.clauses[crate, file, None] = re.findall(r"use Rattle·(\w+)(?:·specs)?\.specs\.(\w+)\.\{([^}]*)\}", text)
+            self.clauses[crate, file, None] = re.findall(r"use Rattle\.(\w+)\.specs\.(\w+)\.\{([^}]*)\}", text)
             used = re.findall(r"(\S+) as ([^\s,}]+)", " ".join(re.findall(r"(?m)^(?:pub )?use [^{\n]*\{([^}]*)\}", text)))
-            self.renamed[crate, file] = {new.strip("_"): old.strip("_") for old, new in used}
+            self.renamed[crate, file] = {new.strip("◌"): old.strip("◌") for old, new in used}
         self.read = {}
 
     @functools.cache

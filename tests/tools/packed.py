@@ -40,21 +40,21 @@ def lines(source):
     """Each line for the program, as a word and numbers, with the numbers that it has to answer."""
     given = source.given
     for pending, *parts in PENDINGS:
-        yield "session", [given("packSession", {"state": 9, "status": 0x0B, "pending": pending, "busy": 0})], [9, 0x0B, *parts]
+        yield "session", [given("pack_session", {"state": 9, "status": 0x0B, "pending": pending, "busy": 0})], [9, 0x0B, *parts]
     for crate, outcomes in (("numbers", OUTCOMES), ("plugnumbers", SERIAL_OUTCOMES)):
-        yield from (("outcome", [given(f"{crate}:packOutcome", outcome)], parts) for outcome, *parts in outcomes)
-    yield from (("command", parts, [given("packCommand", command)]) for command, *parts in COMMANDS)
-    yield "config", [given("numbers:packConfig", CONFIG)], list(CONFIG.values())
+        yield from (("outcome", [given(f"{crate}:pack_outcome", outcome)], parts) for outcome, *parts in outcomes)
+    yield from (("command", parts, [given("pack_command", command)]) for command, *parts in COMMANDS)
+    yield "config", [given("numbers:pack_config", CONFIG)], list(CONFIG.values())
     for ssb in (0xFF, 0xFE, 0xFC):
         yield from (taken(source, data, ssb) for data in DATA)
     for request, length in ((DNLOAD, 0x044F), (GETSTATUS, 6)):
         yield "setup", [request, length], [*divmod(request, 256), 0, 0, 0, 0, length % 256, length // 256]
     yield from (("wait", source.ask(GETSTATUS, 6, state=3, busy=pages)["sent"], [10 * pages]) for pages in (0, 1, 9, 256))
-    yield "wait", [0, *given("timeoutBytes", 0x123456), 4, 0], [0x123456]
+    yield "wait", [0, *given("timeout_bytes", 0x123456), 4, 0], [0x123456]
 
 
 def taken(source, data, ssb):
     """A command is taken where the definitions accept it and set no error status."""
     result = source.ask(DNLOAD, len(data), data, ssb=ssb, flash=[0x00, *source.flash[1:]])
-    numbers = [source.given("numbers:packOutcome", result["outcome"]), source.given("packSession", result["session"])]
+    numbers = [source.given("numbers:pack_outcome", result["outcome"]), source.given("pack_session", result["session"])]
     return "taken", numbers, [int(result["accepted"] != ("none",) and result["session"]["status"] == 0)]

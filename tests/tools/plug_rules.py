@@ -68,7 +68,7 @@ class Plug:
     def __init__(self, page, given):
         self.page, self.given = page, given
         self.same, self.table, self.sentence = page.same, page.table, page.sentence
-        self.size = given("plug:flashSize")
+        self.size = given("plug:flash_size")
         self.config = {"bsb": 0x11, "sbv": 0x22, "ssb": 0xFF, "hsb": 0x9C}
 
     def board(self, flash=None, **changed):
@@ -94,22 +94,22 @@ class Plug:
         size = {row[0]: row[1] for row in rows}
         self.same(["length", "offset", "type", "data", "checksum", "all"], [row[0] for row in rows], "the parts of a record")
         head = sum(number(size[part]) for part in ("length", "offset", "type"))
-        self.same(self.given("record:headSize"), head, "the bytes before the data")
-        self.same(self.given("record:checksumSize"), number(size["checksum"]), "the bytes of the checksum")
+        self.same(self.given("record:head_size"), head, "the bytes before the data")
+        self.same(self.given("record:checksum_size"), number(size["checksum"]), "the bytes of the checksum")
         words = {row[0]: row[2] for row in rows}
-        self.same([0, self.given("record:mostData")], numbers(words["data"]), "the bytes of data")
+        self.same([0, self.given("record:most_data")], numbers(words["data"]), "the bytes of data")
         rest, modulo = numbers(words["checksum"])
         (fixed,), (least, each) = numbers(size["all"]), map(int, re.search(r"(\d+) \+ (\d+)n", words["all"]).groups())
         for n in (0, 1, 2, 16, 254, 255):
             data = [(7 * i + n) % 256 for i in range(n)]
             made = record(0x04, data, 0x2A35)
             self.same((len(made), len(made) // 2), (least + each * n, fixed + n), f"the characters and bytes of a record with {n} bytes")
-            self.same(self.given("record:recordOf", 0x2A35, 0x04, data), made, f"a record with {n} bytes of data")
-            self.same(self.given("record:sum", self.given("record:bytesOf", made)) % modulo, rest, f"the sum of a record with {n} bytes")
+            self.same(self.given("record:record_of", 0x2A35, 0x04, data), made, f"a record with {n} bytes of data")
+            self.same(self.given("record:sum", self.given("record:bytes_of", made)) % modulo, rest, f"the sum of a record with {n} bytes")
             taken = ("Taken", {"offset": 0x2A35, "kind": 0x04, "length": n})
             for characters in (made, list(bytes(made).lower())):
                 self.same(self.given("record:reading", characters), taken, f"the fields of {bytes(characters)}")
-                self.same(self.given("record:dataRead", taken, characters), data, f"the data of {bytes(characters)}")
+                self.same(self.given("record:data_read", taken, characters), data, f"the data of {bytes(characters)}")
 
     def characters(self):
         """Nothing but a colon and hex digits stands in a record, and as many as its length says."""
@@ -132,19 +132,19 @@ class Plug:
         most, bad, short = self.sentence(r"The project's record writer refuses [^.]*")
         tries = ((most + 1, 0, ("Unwritten", bad)), (most, 2 * most + 10, ("Unwritten", short)), (most, 2 * most + 11, ("Wrote", 2 * most + 11)))
         for n, room, told in tries:
-            self.same(self.given("record:writeRecord", 0, 0, [0] * n, [0] * room), told, f"{n} bytes written into {room} characters")
+            self.same(self.given("record:write_record", 0, 0, [0] * n, [0] * room), told, f"{n} bytes written into {room} characters")
 
     def examples(self):
         for characters, words in self.table("A record", 1):
             sent, found = list(characters.strip("`").encode()), numbers(words)
             if words.startswith("program the flash"):
                 told, (at, *data) = ("Program", address(found[0])), found
-                self.same(self.given("plug:recordData", sent), data, f"the data of {characters}")
+                self.same(self.given("plug:record_data", sent), data, f"the data of {characters}")
             elif found:
                 told = (cases(0)[words.split(" from ")[0]][0], *map(address, found))
             else:
                 told = cases(0)[words]
-            self.same(self.given("plug:commandOf", sent), ("some", told), f"{characters}")
+            self.same(self.given("plug:command_of", sent), ("some", told), f"{characters}")
 
     # ---- the commands
 
@@ -159,7 +159,7 @@ class Plug:
         (program,) = [row for row in self.table("Commands") if row[0] == "00h"]
         least, most = numbers(program[1])
         for n, at, good in ((least, 0, 1), (least - 1, 0, 0), (most, 0, 1), (most + 1, 0, 0), (1, 0xFFFF, 1), (2, 0xFFFF, 0)):
-            self.same(self.given("plug:badRange", ("Program", address(at)), n), not good, f"that {n} bytes to program at {at:04X}h are refused")
+            self.same(self.given("plug:bad_range", ("Program", address(at)), n), not good, f"that {n} bytes to program at {at:04X}h are refused")
 
     def no_other_commands(self):
         """Nothing is a command but what the page lists, tried by type, length, the first two bytes and the last."""
@@ -182,7 +182,7 @@ class Plug:
             result = self.step(self.board(), record(kind, data, A))
             found = bytes(result["text"]).decode()
             if answer == "a value":
-                told = f"{self.given('plug:byteValue', case[1], self.config):02X}.\r\n"
+                told = f"{self.given('plug:byte_value', case[1], self.config):02X}.\r\n"
             elif answer == "`.` or an address":
                 told = f"{A:04X}\r\n"
                 clean = self.step(self.board(blank), record(kind, data))["text"]
@@ -200,9 +200,9 @@ class Plug:
         for ssb in range(256):
             told = {zero: level_0, one: level_1}.get(ssb, level_2)
             self.same(self.given("plug:level", {**self.config, "ssb": ssb}), (f"L{told}",), f"the level of SSB {ssb:02X}h")
-        delivered = self.given("plug:level", self.given("plug:deliveredConfig"))
+        delivered = self.given("plug:level", self.given("plug:delivered_config"))
         self.same([delivered], [(f"L{n}",) for n in self.sentence(r"A delivered board is at level \d")], "the level as delivered")
-        erased = self.given("plug:level", self.given("plug:erasedConfig", {**self.config, "ssb": 0}))
+        erased = self.given("plug:level", self.given("plug:erased_config", {**self.config, "ssb": 0}))
         self.same([erased], [(f"L{n}",) for n in self.sentence(r"a full chip erase brings it back to \d")], "the level after a full chip erase")
 
     def levels(self):
@@ -219,7 +219,7 @@ class Plug:
                 result = self.step(self.board(ssb=ssb), record(kind, data, A))
                 refused = (bytes(result["text"]), result["done"]) == (b"P\r\n", ("none",))
                 self.same(refused, cell == "P", f"that {phrase} gets P at level {level}")
-                after = self.given("levelNumber", self.given("plug:level", result["config"]))
+                after = self.given("level_number", self.given("plug:level", result["config"]))
                 self.same(after >= level or phrase == "full chip erase", True, f"that {phrase} does not lower level {level}")
 
     # ---- answers
@@ -227,35 +227,35 @@ class Plug:
     def answers(self):
         rows = {row[0]: row for row in self.table("Answers")}
         self.same(["`.`", "a value", "an address", "lines", "X", "P", "none"], list(rows), "the answers")
-        self.same([13, 10], self.given("plug:lineEnd"), "CR and LF")
-        blank = [value for value in range(256) if self.given("usedIn", 0, 0, [value]) == ("none",)]
+        self.same([13, 10], self.given("plug:line_end"), "CR and LF")
+        blank = [value for value in range(256) if self.given("used_in", 0, 0, [value]) == ("none",)]
         self.same([blank, blank], [numbers(rows[name][3]) for name in ("`.`", "an address")], "the byte that is blank")
         refused = self.step(self.board(), record(0x06, []))["text"]
         made = {
-            "`.`": [(self.given("plug:doneText"), "a full stop", ".")],
-            "a value": [(self.given("plug:valueText", v), "two hex digits and a full stop", f"{v:02X}.") for v in range(256)],
-            "an address": [(self.given("plug:blankText", ("some", x)), "four hex digits", f"{x:04X}") for x in (0, 0x9A, 0xBCDE, 0xFFFF)],
-            "X": [(self.given("plug:wrongChecksumText"), "the letter", "X")],
-            "P": [(self.given("plug:securityText"), "the letter", "P")],
+            "`.`": [(self.given("plug:done_text"), "a full stop", ".")],
+            "a value": [(self.given("plug:value_text", v), "two hex digits and a full stop", f"{v:02X}.") for v in range(256)],
+            "an address": [(self.given("plug:blank_text", ("some", x)), "four hex digits", f"{x:04X}") for x in (0, 0x9A, 0xBCDE, 0xFFFF)],
+            "X": [(self.given("plug:wrong_checksum_text"), "the letter", "X")],
+            "P": [(self.given("plug:security_text"), "the letter", "P")],
             "none": [(self.step(self.board(), record(0x03, [3, 0]))["text"], "no line end either", ""), (refused, "no line end either", "")],
         }
         for name, (text, words, before) in ((name, one) for name, tried in made.items() for one in tried):
             told = before + "\r\n" * (name != "none")
             self.same((bytes(text).decode(), words, len(text)), (told, rows[name][1], number(rows[name][2])), f"the answer {name}")
         least, each = map(int, re.match(r"(\d+) \+ (\d+)n", rows["lines"][2]).groups())
-        self.same([self.given("plug:lineSize")], numbers(rows["lines"][1]), "the bytes of a line")
+        self.same([self.given("plug:line_size")], numbers(rows["lines"][1]), "the bytes of a line")
         for n in range(1, 17):
-            line = self.given("plug:displayLine", A, A + n - 1, [0x5A] * 0x200)
+            line = self.given("plug:display_line", A, A + n - 1, [0x5A] * 0x200)
             self.same((bytes(line).decode(), len(line)), (shown(A, A + n - 1, [0x5A] * 0x200), least + each * n), f"a line of {n} bytes")
 
     def displays(self):
         flash = [(3 * i + i // 256) % 256 for i in range(self.size)]
         for first, last, lines, room in ([number(cell) for cell in row] for row in self.table("Answers", 1)):
             what = f"a display from {first:04X}h to {last:04X}h"
-            self.same(self.given("plug:lineCount", first, last), lines, f"the lines of {what}")
+            self.same(self.given("plug:line_count", first, last), lines, f"the lines of {what}")
             self.same(len(shown(first, last, flash)), room, f"the characters of {what}")
         for first, last in ((0, 0), (0, 0x20), (0x2A08, 0x2A17), (0x2A08, 0x2A3F), (0xFFF1, 0xFFFF), (0xFFF8, 0xFFFF)):
-            found = bytes(self.given("plug:displayText", first, last, flash)).decode()
+            found = bytes(self.given("plug:display_text", first, last, flash)).decode()
             self.same(found, shown(first, last, flash), f"a display from {first:04X}h to {last:04X}h")
 
     # ---- the order
@@ -354,27 +354,27 @@ class Plug:
         rows = self.table("What is stored", 1)
         self.same([*BYTES, *FIXED], [row[0] for row in rows], "the bytes of the plug")
         self.same(list(BYTES.values()), [row[1].split(";")[0] for row in rows[:4]], "their names spelled out")
-        delivered, erased = self.given("plug:deliveredConfig"), self.given("plug:erasedConfig", self.config)
+        delivered, erased = self.given("plug:delivered_config"), self.given("plug:erased_config", self.config)
         for name, _, first, after in rows[:4]:
             field = name.lower()
             self.same(delivered[field], number(first), f"{name} as delivered")
             self.same(erased[field], self.config[field] if after == "stays" else number(after), f"{name} after a full chip erase")
         self.same([row[3] for row in rows[4:]], ["stays"] * 5, "that a full chip erase keeps the fixed bytes")
-        fixed = ("manufacturer", "familyCode", "productName", "productRevision", "bootloaderVersion")
+        fixed = ("manufacturer", "family_code", "product_name", "product_revision", "bootloader_version")
         self.same([self.given(f"plug:{name}") for name in fixed], [number(row[2]) for row in rows[4:]], "the fixed bytes")
-        flash = [self.size, 0, self.size - 1, self.given("plug:flashPages"), self.given("pageSize")]
+        flash = [self.size, 0, self.size - 1, self.given("plug:flash_pages"), self.given("page_size")]
         self.same(flash, self.sentence(r"Its flash has [^.]*"), "the size of the flash")
         (blank,) = self.sentence(r"The flash is delivered blank, all \w+")
-        self.same(self.given("plug:blankFlash") == [blank] * self.size, True, f"that all the flash is {blank:02X}h as delivered")
+        self.same(self.given("plug:blank_flash") == [blank] * self.size, True, f"that all the flash is {blank:02X}h as delivered")
 
     # ---- demand 3
 
     def told_apart(self):
         """Boards that are blank at different places, and a blank check of one address in each room."""
         least, instead = self.sentence(r"in every room of \d+ characters or more, and in a smaller room every blank check gets \d+")
-        self.same(self.given("plug:leastRoom"), least, "the least room")
+        self.same(self.given("plug:least_room"), least, "the least room")
         used = [0xFF] * A + [0x12] + [0xFF] * (self.size - A - 1)
-        check = self.given("plug:blankCheckOf", A)
+        check = self.given("plug:blank_check_of", A)
         for room, ssb in itertools.product(range(9), (0xFF, 0xFE, 0xFC, 0x00)):
             results = [self.step(self.board(flash, ssb=ssb), check, room) for flash in (used, [0xFF] * self.size)]
             reports = [self.given("plug:report", result) for result in results]

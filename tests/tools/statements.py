@@ -10,7 +10,7 @@ import contracts
 
 WORD = re.compile(r"[^\s(){};,.\"]+")
 HEAD = re.compile(r"(?:(?:abbrev|unfoldable|pub|record|data)\s+)*([^\s(){}:]+)")
-USED = re.compile(r"(?m)^(?:pub )?use Rattle·(\w+)(?:·specs)?\.specs\.([A-Z]\w*)\.\{([^}]*)\}")
+USED = re.compile(rf"(?m)^(?:pub )?use Rattle\.(?!{contracts.LIBRARY}\.)(\w+)\.specs\.([A-Z]\w*)\.\{{([^}}]*)\}}")
 BARE = re.compile(r"(?m)^(?:abbrev|unfoldable) pub ([A-Z]\w*) : Type 0$|^pub record ([A-Z]\w*) : Type 0 where$")
 SAYS = re.compile(r"(pub (record|data) [^\n]*: Type 0 where$|(abbrev|unfoldable) pub [^\n]*: ([^\n]*→ )?Type 0$)", re.M)
 PROVED = re.compile(r"(?m)^pub [^\s:]+ : ([A-Z]\w*)$")
