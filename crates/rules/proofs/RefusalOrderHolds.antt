@@ -44,6 +44,7 @@ data_told : (setup d : List ℕ) → Unless (bad_data setup d) (DataRight setup 
 data_told setup d = data_by setup d (to_host setup) refl
 
 pub in_among : (n : ℕ) (ms : List ℕ) → In n ms → among n ms ≡ true
+in_among n [] i = elim i [ ]
 in_among n (m ∷ ms) (inl q) = rw (eq-eqb n m q)
 in_among n (m ∷ ms) (inr i) = rw (in_among n ms i) (or-true (eqb n m))
 

@@ -23,7 +23,7 @@ use Rattle.rules.specs.Levels.{level_status}
 use Rattle.rules.specs.Result.{Board, board, Result, next}
 use Rattle.rules.specs.Requests.{Dnload}
 use Rattle.rules.specs.Refusals.{refusal, most_busy}
-use Rattle.rules.specs.Step.{Event, Ask, step, after}
+use Rattle.rules.specs.Step.{Event, PowerUp, Ask, step, after}
 use Rattle.rules.specs.BenchCases.{Unnamed, download, ask_status}
 use Rattle.rules.specs.Accepted.{status_set}
 use Rattle.rules.specs.RefusedWrite.{Forbidden, program_flash_lem, program_eeprom_lem, erase_low, erase_middle, erase_high, write_hsb, ssb_at_0, ssb_at_1}
@@ -69,6 +69,7 @@ denied_by c d (ssb_at_1 q v y) = ssb_row c v (rw (q, ne_eqb v 0xFC y))
 denied_by c d (ssb_at_2 h k v) = ssb_row c v (rw (ne_eqb c.ssb 0xFF h, ne_eqb c.ssb 0xFE k))
 
 has_bytes : (ssb : ℕ) (d : List ℕ) → Forbidden ssb d → 0 < length d
+has_bytes ssb [] f = elim f [ ]
 has_bytes ssb (x ∷ xs) f = omega arith
 
 module _ (b : Board) (t : TakesCommands b) (u : Unnamed) (d : List ℕ) (f : Forbidden b.config.ssb d) (short : length d ≤ 1103) where
@@ -88,6 +89,7 @@ module _ (b : Board) (t : TakesCommands b) (u : Unnamed) (d : List ℕ) (f : For
       runs : (state : ℕ) → state ≡ 0 → In state (2 ∷ 5 ∷ []) → ⊥
       runs state z (inl q) = omega arith
       runs state z (inr (inl q)) = omega arith
+      runs state z (inr (inr i)) = elim i [ ]
 
   refused : step b (download u d) ≡ status_set b 0x03
   unfolding step
@@ -136,6 +138,7 @@ goes_on b later setup d n m h =
 
 remembers : (b later : Board) (vs : List Event) → Remembers b later → Uncleared later vs → Remembers b (after later vs)
 remembers b later [] m h = m
+remembers b later (PowerUp ∷ vs) m h = elim h [ ]
 remembers b later (Ask setup d n ∷ vs) m h = remembers b (next later (step later (Ask setup d n))) vs (goes_on b later setup d n m h.0) h.1
 
 -- such a board sends 03h and state 10

@@ -107,6 +107,8 @@ read_sent_lem L1 h = refl
 read_sent_lem L2 h = absurd (h refl)
 
 sent : (p : Pending) (l : Level) → CanBeSent p l → sendable p l ≡ true
+sent Nothing l h = elim h [ ]
+sent (Start k a) l h = elim h [ ]
 sent (MemoryRead r) l h = read_sent_lem l h
 sent (BlankReport a) l h = refl
 sent (OneByte v) l h = refl

@@ -26,6 +26,7 @@ reply_laid bytes p p' h q = q ∙ rw (le-leb (0 + length bytes) (length p) (omeg
 
 -- a number is one of an arm's keys, or none of them
 pub one_of : (ks : List ℕ) (n : ℕ) → OneOf ks n → among n ks ≡ true
+one_of [] n e = elim e [ ]
 one_of (k ∷ []) n e = rw (eq-eqb n k e)
 one_of (k ∷ k' ∷ ks) n (inl e) = rw (eq-eqb n k e)
 one_of (k ∷ k' ∷ ks) n (inr r) = rw (one_of (k' ∷ ks) n r) (or-true (eqb n k))
