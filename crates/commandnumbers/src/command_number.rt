@@ -46,6 +46,7 @@ pub fn pack_command(command: Command) -> u64
     }
 }
 
+#[tactic(auto, unfolding(numbers::specs::Layout::command_for))]
 fn command_for(kind: u16, first: u16, last: u16) -> Command
     ensures { result ≡ command_for kind first last }
 {
