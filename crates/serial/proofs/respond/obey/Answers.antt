@@ -1,6 +1,7 @@
 -- `serial::respond::obey` meets its contract.
 -- Assumes nothing.
-use Rattle.std.proofs.Common.{◌≡◌, true, false, None, length, refl, sym}
+use mathlib.Core.Option.{none}
+use Rattle.std.proofs.Common.{◌≡◌, true, false, length, refl, sym}
 use Rattle.plug.specs.Config.{level}
 use Rattle.plug.specs.Levels.{allowed}
 use Rattle.plug.specs.Commands.{bad_range}
@@ -14,7 +15,7 @@ unfolding obey
 returns-then-bad_range c =
     let a = c.args in
     let bad : bad_range a.command (length a.sent.now) ≡ true = sym c.if-bad_range.ensures in
-    rw (bad, c.quiet.ensures) (quiet_stepped (board a.config a.flash.now) (length a.room.now) _ None _)
+    rw (bad, c.quiet.ensures) (quiet_stepped (board a.config a.flash.now) (length a.room.now) _ none _)
 
 pub returns-then-not-is_allowed : goal.returns-then-not-is_allowed
 unfolding obey

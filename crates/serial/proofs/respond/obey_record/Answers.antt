@@ -1,6 +1,7 @@
 -- `serial::respond::obey_record` meets its contract.
 -- Assumes nothing.
-use Rattle.std.proofs.Common.{None, length, sym}
+use mathlib.Core.Option.{none}
+use Rattle.std.proofs.Common.{length, sym}
 use Rattle.plug.specs.Commands.{form}
 use Rattle.plug.specs.Step.{board}
 use Rattle.plugcommands.proofs.SteppedLaws.{quiet_stepped}
@@ -18,4 +19,4 @@ returns-in-Unlisted c =
     let a = c.args in
     let o = form a.fields.kind a.fields.offset a.sent.now in
     rw (unlisted o (sym c.in-Unlisted.ensures), c.quiet.ensures)
-    (quiet_stepped (board a.config a.flash.now) (length a.room.now) _ None _)
+    (quiet_stepped (board a.config a.flash.now) (length a.room.now) _ none _)

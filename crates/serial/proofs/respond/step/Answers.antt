@@ -1,11 +1,12 @@
 -- `serial::respond::step` meets its contract: by what the reader says.
 -- Assumes nothing.
-use Rattle.std.proofs.Common.{None, length, refl}
+use mathlib.Core.Option.{none}
+use Rattle.std.proofs.Common.{length, refl}
 use Rattle.record.specs.declared.fields.Reading.TheVariants.{Taken, WrongChecksum, Refused}
 use Rattle.plug.specs.Answers.{wrong_checksum_text}
 use Rattle.plug.specs.Step.{board, told}
 use Rattle.plugcommands.proofs.SteppedLaws.{flash_stays, quiet_stepped}
-use Rattle.serial.proofs.StepLaws.{wrong_size, by_reading, was_read, data_inside, data_front}
+use Rattle.serial.proofs.StepLaws.{wrong_size, by_reading, was_read, data_inside, data_count_lem, data_front}
 use Rattle.serial.proofs.respond.step.Goals as goal
 
 pub returns-then-flash-ne-FLASH_SIZE : goal.returns-then-flash-ne-FLASH_SIZE
@@ -13,11 +14,15 @@ returns-then-flash-ne-FLASH_SIZE c =
     let a = c.args in
     let b = board a.config a.flash.now in
     let n = length a.room.now in
-    wrong_size b a.characters.now n c.if-flash-ne-FLASH_SIZE.true (rw c.quiet.ensures (quiet_stepped b n _ None _))
+    wrong_size b a.characters.now n c.if-flash-ne-FLASH_SIZE.true (rw c.quiet.ensures (quiet_stepped b n _ none _))
 
-pub slice_bounds-obey_record-n : goal.slice_bounds-obey_record-n
-slice_bounds-obey_record-n c =
+pub slice_bounds-held-end : goal.slice_bounds-held-end
+slice_bounds-held-end c =
     data_inside _ _ refl _ c.read_record.ensures.value c.in-Taken.fields c.in-Taken.is _ c.read_record.ensures.room_after
+
+pub slice_bounds-obey_record-end : goal.slice_bounds-obey_record-end
+slice_bounds-obey_record-end c =
+    data_count_lem _ _ refl _ c.read_record.ensures.value c.in-Taken.fields c.in-Taken.is _ c.read_record.ensures.room_after
 
 pub returns-in-Taken : goal.returns-in-Taken
 returns-in-Taken c =
@@ -47,4 +52,4 @@ returns-in-Refused c =
     let number = c.in-Refused.number in
     let refused = was_read a.characters.now _ refl _ c.read_record.ensures.value (Refused number) c.in-Refused.is in
     by_reading b a.characters.now n (Refused number) c.if-flash-ne-FLASH_SIZE.false refused
-    (rw c.quiet.ensures (quiet_stepped b n _ None _))
+    (rw c.quiet-in-Refused.ensures (quiet_stepped b n _ none _))
