@@ -52,6 +52,7 @@ fn stores(config: Config, pages: usize) -> Answer
 }
 
 // The byte of an index that can be read.
+#[tactic(auto, unfolding(config::specs::Config::byte_read))]
 fn byte_of(config: Config, index: u8) -> u8
     requires { readable index ≡ true }
     ensures { result ≡ config_byte index config }
@@ -85,6 +86,7 @@ fn blank_check(config: Config, start: FlashAddress, end: FlashAddress, flash: &[
 }
 
 // Does what an accepted command says.
+#[tactic(auto, unfolding(rules::specs::Commands::perform))]
 pub(crate) fn perform(
     config: Config,
     command: Command,
