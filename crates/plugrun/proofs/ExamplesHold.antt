@@ -4,10 +4,9 @@ use mathlib.Core.Path.{refl, ap}
 use mathlib.Core.List.{◌++◌}
 use borrow.Author.Tests.{lt-ltb, le-ltb}
 use lib.ListN.{length}
-use Rattle.bytes.specs.Bytes.{index_of, index_after}
 use Rattle.lines.specs.Text.{ascii, decimal}
 use Rattle.lines.specs.Line.{head_line, records_line, refused_line}
-use Rattle.listing.specs.Line.{without_return, starts_erased}
+use Rattle.listing.specs.Line.{index_of, without_return, starts_erased}
 use Rattle.listing.specs.Records.{most_file, records_in, records_from, records_of}
 use Rattle.memory.specs.Pages.{page_store, program_stores}
 use Rattle.memory.specs.Program.{bytes_stores}
@@ -52,17 +51,17 @@ pub words_named : WordsNamed
 words_named = record { answered = refl; reset = refl; started = λ a. refl; refused = λ n. refl }
 
 pub delivered : Delivered
-unfolding written pieces first_text record_texts start_config records_of records_from records_in index_of index_after without_return starts_erased decimal head_line
+unfolding written pieces first_text record_texts start_config records_of records_from records_in index_of without_return starts_erased decimal head_line
     records_line answer reading digit_value form obey perform blank_flash
 delivered = refl
 
 pub erased : Erased
-unfolding written pieces first_text record_texts start_config records_of records_from records_in index_of index_after without_return starts_erased decimal head_line
+unfolding written pieces first_text record_texts start_config records_of records_from records_in index_of without_return starts_erased decimal head_line
     records_line answer reading digit_value form obey perform blank_flash
 erased = refl
 
 pub carried_on : CarriedOn
-unfolding written pieces first_text record_texts start_config records_of records_from records_in index_of index_after without_return starts_erased decimal head_line
+unfolding written pieces first_text record_texts start_config records_of records_from records_in index_of without_return starts_erased decimal head_line
     records_line answer reading digit_value form obey perform bytes_stores page_store program_stores display_text blank_flash
 carried_on = refl
 

@@ -24,6 +24,7 @@ pub fn blank_flash() -> [u8; FLASH_SIZE]
 }
 
 // The configuration of a board after a full chip erase, or of a delivered one.
+#[tactic(auto, unfolding(crate::specs::Written::start_config))]
 fn start_config(file: &[u8]) -> Config
     ensures { result ≡ start_config file.now }
 {
@@ -57,6 +58,7 @@ pub fn start(file: &[u8]) -> Progress
 // Writes the line that a file's text begins with to the front of the room, and answers the place after it: how many records the file
 // holds, or that it is too long. Refuses a room that is too short with 9; then the room stays as it was, and otherwise the room past
 // the line does.
+#[tactic(auto, unfolding(crate::specs::Written::first_text))]
 pub fn first_line(file: &[u8], room: &mut [u8]) -> Put
     ensures value { result ≡ put 0 (first_text file.now) room.old }
     ensures room_after { room.new ≡ laid 0 (first_text file.now) room.old }
