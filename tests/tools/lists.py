@@ -31,8 +31,8 @@ This page is made by `tests/tools/lists.py` from crates/*/must-fail. It is not w
 
 def crates(root):
     """The crates in the order of crates.txt: each stands below those that use it."""
-    lines = [line.split(":")[0].strip() for line in (root / "crates.txt").read_text().splitlines()]
-    return [line for line in lines if line and not line.startswith("#")]
+    lines = [line for line in (root / "crates.txt").read_text().splitlines() if line.strip() and not line.startswith("#")]
+    return [re.split(r"[ :]", line)[0] for line in lines]
 
 
 def first_sentence(words):
