@@ -45,6 +45,7 @@ fn asked(session: Session, setup: &[u8], sent: &[u8]) -> Answer
 }
 
 // SSB is read as it is stored.
+#[tactic(auto, unfolding(config::specs::Config::byte_read))]
 fn read_ssb() {
     let ByteRead::Value(ssb) = config::read_byte(odd(), 0x05) else {
         return;
