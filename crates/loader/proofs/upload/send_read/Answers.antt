@@ -1,0 +1,28 @@
+-- `loader::upload::send_read` meets its contract.
+-- Assumes nothing.
+use Rattle.std.proofs.Common.{ap, ◌∙◌, arith}
+use Rattle.memory.specs.Read.{read_count, read_buffer}
+use Rattle.rules.specs.declared.session.Pending.TheVariants.{MemoryRead}
+use Rattle.rules.specs.Answered.{sent_answer}
+use Rattle.rules.proofs.UploadLaws.{reads_first, reads_all}
+use Rattle.loader.proofs.upload.send_read.Goals as goal
+
+pub returns-then-n-all : goal.returns-then-n-all
+returns-then-n-all c =
+    let a = c.args in
+    let less = c.if-n-all.true in
+    let counted = c.range_count-all.ensures.value in
+    let read = c.read_range-count.ensures in
+    reads_first a.busy a.config a.flash.now a.eeprom.now a.reply.now a.n _ _ a.range c.requires (omega arith)
+    (read.value ∙ ap (λ r. read_count r a.flash.now a.eeprom.now a.reply.now) c.first_of.ensures)
+    (read.reply_after ∙ ap (λ r. read_buffer r a.flash.now a.eeprom.now a.reply.now) c.first_of.ensures)
+    (c.sent.ensures ∙ ap (λ r. sent_answer a.config 9 (MemoryRead r) a.busy c.read_range-count.result) c.rest_of.ensures)
+
+pub returns : goal.returns
+returns c =
+    let a = c.args in
+    let less = c.if-n-all.false in
+    let counted = c.range_count-all.ensures.value in
+    let read = c.read_range-count-2.ensures in
+    reads_all a.busy a.config a.flash.now a.eeprom.now a.reply.now a.n _ _ a.range c.requires (omega arith) read.value read.reply_after
+    c.sent-2.ensures
