@@ -24,7 +24,8 @@ in_none (suc n) file at b = simp b
 
 in_some : (n : ℕ) (file : List ℕ) (at : ℕ) → beyond file at (length file) ≡ false
     → walk_in (suc n) file at
-    ≡ by_tag (tag_at file at) (span (value_at at) (length_at file at) ∷ walk_in n file (end_at file at)) (walk_in n file (value_at at)) (walk_in n file (end_at file at))
+    ≡ by_tag (tag_at file at) (span (value_at at) (length_at file at) ∷ walk_in n file (end_at file at)) (walk_in n file (value_at at))
+    (walk_in n file (end_at file at))
 unfolding walk_in
 in_some n file at b = simp b
 
@@ -33,7 +34,8 @@ enough : (n m : ℕ) (file : List ℕ) (at : ℕ) → length file ≤ at + n →
 unfolding walk_in
 enough zero m file at h k = sym (in_none m file at (end_beyond file at (length file) (omega arith)))
 enough (suc n) zero file at h k = in_none (suc n) file at (end_beyond file at (length file) (omega arith))
-enough (suc n) (suc m) file at h k = rw (enough n m file (value_at at) (omega arith) (omega arith), enough n m file (end_at file at) (omega arith) (omega arith))
+enough (suc n) (suc m) file at h k =
+    rw (enough n m file (value_at at) (omega arith) (omega arith), enough n m file (end_at file at) (omega arith) (omega arith))
 
 one_more : (file : List ℕ) (at : ℕ) → walk file at ≡ walk_in (suc (length file)) file at
 unfolding walk

@@ -16,7 +16,7 @@ abbrev pub held : List Span → List ℕ → ℕ → List Span
 held inside file at = by_tag (tag_at file at) (span (value_at at) (length_at file at) ∷ []) inside []
 
 -- the requests of the fields from a place up to `end`, in file order, through all groups; a field that goes beyond ends them. The
--- first number bounds the calls inside each other, as in fieldsVerdict
+-- first number bounds the calls inside each other, as in fields_verdict
 unfoldable pub requests_in : ℕ → List ℕ → ℕ → ℕ → List Span
 requests_in zero file at end = []
 requests_in (suc n) file at end =

@@ -14,7 +14,8 @@ use Rattle.rules.specs.declared.session.Pending.TheVariants.{Nothing, MemoryRead
 use Rattle.rules.specs.declared.session.StartKind.{StartKind}
 use Rattle.rules.specs.declared.session.StartKind.TheVariants.{Reset, AtAddress}
 use Rattle.rules.specs.declared.answer.Outcome.TheVariants.{Done, Stall, Started, Refused}
-use Rattle.numbers.specs.Layout.{pack_session, session_of, pending_of, pack_config, config_of, pack_outcome, number_after, pack_command, command_of, command_for}
+use Rattle.numbers.specs.Layout.{pack_session, session_of, pending_of, pack_config, config_of, pack_outcome, number_after}
+use Rattle.numbers.specs.Layout.{pack_command, command_of, command_for}
 
 -- state 05h, status 03h and this pending is the number, both ways, whatever the busy count beside it
 abbrev pub Session : Pending → ℕ → Type 0

@@ -100,4 +100,5 @@ SsbTold = (b b' : Board) → length b.flash ≡ flash_size → length b'.flash �
 -- boards with different HSB are told apart by one read after a full chip erase, so "for ever" asks for equal HSB
 abbrev pub HsbTold : Type 0
 HsbTold = (b b' : Board) → length b.flash ≡ flash_size → length b'.flash ≡ flash_size → (b.config.hsb ≡ b'.config.hsb → ⊥)
-    → (m n : ℕ) → least_room ≤ m → value_room ≤ n → reports b (sent erase_all m ∷ sent read_hsb n ∷ []) ≡ reports b' (sent erase_all m ∷ sent read_hsb n ∷ []) → ⊥
+    → (m n : ℕ) → least_room ≤ m → value_room ≤ n
+    → reports b (sent erase_all m ∷ sent read_hsb n ∷ []) ≡ reports b' (sent erase_all m ∷ sent read_hsb n ∷ []) → ⊥

@@ -278,7 +278,8 @@ module _ (s : Session) (c : Config) (f e : List ℕ) (hf : length f ≡ flash_si
   check = 0x03 ∷ 0x01 ∷ x / 256 ∷ x % 256 ∷ x / 256 ∷ x % 256 ∷ []
 
   settled : (t : Bool)
-      → next (board idle c f e) (accept (BlankCheck (flash_address x) (flash_address x)) (blank_effect c (if t then none else some x))) ≡ board (checked t) c f e
+      → next (board idle c f e) (accept (BlankCheck (flash_address x) (flash_address x)) (blank_effect c (if t then none else some x)))
+      ≡ board (checked t) c f e
   unfolding checked
   settled true = refl
   settled false = refl
