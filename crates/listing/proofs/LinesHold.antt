@@ -63,7 +63,8 @@ line_at file at =
 
 records_at : (file : List ℕ) (at : ℕ) → RecordsAt file at
 records_at file at =
-    let behind : records_from file (suc (line_end file at)) ≡ records_from file (line_end file at + 1) = ap (records_from file) (sym (add-one (line_end file at))) in
+    let behind : records_from file (suc (line_end file at)) ≡ records_from file (line_end file at + 1)
+    = ap (records_from file) (sym (add-one (line_end file at))) in
     record {
       no_line = from_none file at;
       record_line = λ h s n. rw add-one (from_record file at h (files.record_line file at (text_end file at) s n));

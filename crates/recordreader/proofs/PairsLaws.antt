@@ -1,6 +1,7 @@
 -- The loop that reads pairs of digits: what is left to read, with what is read, comes to what all comes to.
 -- Assumes nothing.
-use Rattle.std.proofs.Common.{◌≡◌, ℕ, suc, ◌+◌, ◌*◌, ◌%◌, ◌<◌, ◌≤◌, true, false, List, [], ◌∷◌, length, get_or, drop, set, sym, refl, ap, ◌∙◌, arith, length-drop, length-set, drop_of_length-le, drop-cons, eq-eqb}
+use Rattle.std.proofs.Common.{◌≡◌, ℕ, suc, ◌+◌, ◌*◌, ◌%◌, ◌<◌, ◌≤◌, true, false, List, [], ◌∷◌, length, get_or, drop}
+use Rattle.std.proofs.Common.{set, sym, refl, ap, ◌∙◌, arith, length-drop, length-set, drop_of_length-le, drop-cons, eq-eqb}
 use Rattle.words.specs.Words.{overlay}
 use Rattle.words.proofs.WordsLaws.{overlay_none, overlay_append}
 use Rattle.lines.proofs.RoomLaws.{byte_stands}

@@ -1,7 +1,8 @@
 -- Laws of the record reader: what its tests say of the characters, and its answers to those that passed.
 -- Assumes nothing.
 use Rattle.std.specs.Prelude.{if◌then◌else◌}
-use Rattle.std.proofs.Common.{◌≡◌, ℕ, ◌+◌, ◌-◌, ◌*◌, ◌%◌, ◌<◌, ◌≤◌, Bool, true, false, List, length, get_or, take, drop, sym, refl, ◌∙◌, arith, length-drop, length-take-le, le-ltb, lt-ltb, eq-eqb, ne_eqb, le-leb}
+use Rattle.std.proofs.Common.{◌≡◌, ℕ, ◌+◌, ◌-◌, ◌*◌, ◌%◌, ◌<◌, ◌≤◌, Bool, true, false, List, length, get_or, take, drop}
+use Rattle.std.proofs.Common.{sym, refl, ◌∙◌, arith, length-drop, length-take-le, le-ltb, lt-ltb, eq-eqb, ne_eqb, le-leb}
 use lib.ListN.{get_or-append}
 use lib.Seq.{take-append-le, drop-append-le}
 use Rattle.words.specs.Words.{byte_at, overlay, laid}

@@ -72,7 +72,7 @@ module _ (b : Board) (n : ℕ) (some_asked : 0 < n) where
 
   sends_by : (p : Pending) → length (pending_bytes b p) ≡ pending_count p
       → (n < length (pending_bytes b p) → (take n (pending_bytes b p) ++ pending_bytes b (pending_after n p) ≡ pending_bytes b p)
-          × Rest n p (pending_after n p))
+      × Rest n p (pending_after n p))
       → (t : Bool) → ltb n (length (pending_bytes b p)) ≡ t → Sends b n p (send b n p)
   sends_by p c w true q = let l = ltb-true n (length (pending_bytes b p)) q in sends_more p l c (w l).0 (w l).1
   sends_by p c w false q = sends_all p (ltb-false n (length (pending_bytes b p)) q) c

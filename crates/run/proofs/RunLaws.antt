@@ -208,7 +208,8 @@ module _ (file : List ℕ) (g : verdict file ≡ Accepted) where
       (subst (λ (k : ℕ). Stands 0 (job_line k) room₀ place room₁) n j)
       (subst (λ (x : List ℕ). Stands place x room₁ end room) w l)
 
-  pub accepted_stands : (end : ℕ) (room₀ room : List ℕ) → Stands 0 (job_line (request_count file) ++ lines file delivered_board 1 (requests_of file)) room₀ end room
+  pub accepted_stands : (end : ℕ) (room₀ room : List ℕ)
+      → Stands 0 (job_line (request_count file) ++ lines file delivered_board 1 (requests_of file)) room₀ end room
       → Stands 0 (bench file) room₀ end room
   unfolding bench
   accepted_stands end room₀ room s = rw g s

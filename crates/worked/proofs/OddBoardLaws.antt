@@ -24,7 +24,8 @@ module _ (f e p : List ℕ) (r : Room f e p) where
   room : ltb (length p) reply_size ≡ false
   room = le-ltb (length p) reply_size r.room
 
-  pub refuses_write : answer (ask (board idle odd_config f e) (0x21 ∷ 1 ∷ 0 ∷ 0 ∷ 0 ∷ 0 ∷ 4 ∷ 0 ∷ []) (0x04 ∷ 0x01 ∷ 0x05 ∷ 0xFC ∷ []) (length p)) ≡ write_refused
+  pub refuses_write : answer (ask (board idle odd_config f e) (0x21 ∷ 1 ∷ 0 ∷ 0 ∷ 0 ∷ 0 ∷ 4 ∷ 0 ∷ []) (0x04 ∷ 0x01 ∷ 0x05 ∷ 0xFC ∷ []) (length p))
+      ≡ write_refused
   unfolding ask refusal request_of respond dnload form obey
   refuses_write = rw (r.sizes.flash_size_lem, r.sizes.eeprom_size_lem, room)
 

@@ -31,7 +31,8 @@ use Rattle.writer.specs.Writer.{Wrote, Unwritten, zeros, no_tail, tail_for, head
 use Rattle.writer.specs.Writer.{write_command, room_after}
 use Rattle.writer.specs.RoundTrip.{body_at, suffix_at, carried, ReadsAs, ReadsBack, ZeroPadded, ZeroFilled, Bytes, WritesBack}
 use Rattle.words.proofs.WordsLaws.{or_false}
-use Rattle.command.proofs.FormLaws.{Formed, formed, program_flash_lem, program_eeprom_lem, read_flash, read_eeprom, blank_check, erase_block, erase_chip, write_byte}
+use Rattle.command.proofs.FormLaws.{Formed, formed, program_flash_lem, program_eeprom_lem, read_flash, read_eeprom, blank_check}
+use Rattle.command.proofs.FormLaws.{erase_block, erase_chip, write_byte}
 use Rattle.command.proofs.FormLaws.{write_hsb, start_reset, start_at, read_version, read_byte, read_hsb_lem}
 use Rattle.writer.proofs.WriterLaws.{right_lengths}
 use Rattle.command.proofs.ReaderLaws.{Passed, passed, taken}
@@ -291,7 +292,8 @@ module _ (p : List ℕ) (each : Bytes p) where
   back k (read_hsb_lem q t l) u z = plain_back k (read_hsb_lem q t l) l refl refl
 
 -- what the writer answers, when nothing is wrong
-wrote : (k : Command) (d s room p : List ℕ) → bad_address k ≡ false → bad_write k (length d) (length s) ≡ false → command_bytes k d s ≡ p → length p ≤ length room
+wrote : (k : Command) (d s room p : List ℕ) → bad_address k ≡ false → bad_write k (length d) (length s) ≡ false → command_bytes k d s ≡ p
+    → length p ≤ length room
     → (write_command k d s room ≡ Wrote (length p)) × (take (length p) (room_after k d s room) ≡ p)
 unfolding write_command room_after put_answer put_room
 wrote k d s room p a w q h =

@@ -29,7 +29,8 @@ module _ (a : ℕ) (d m₀ : List ℕ) (h : ℕ) (any : 0 < length d) (fits : a 
 
   at_pages : 0 < length (take (page_size * whole) (drop h d)) → page_size * ((a + h) / page_size) ≡ a + h
   at_pages any_whole =
-      let l : length (take (page_size * whole) (drop h d)) ≡ page_size * whole = length-take-le (page_size * whole) (drop h d) (simp length-drop (omega arith)) in
+      let l : length (take (page_size * whole) (drop h d)) ≡ page_size * whole
+      = length-take-le (page_size * whole) (drop h d) (simp length-drop (omega arith)) in
       let more : h < length d = omega arith in
       omega (arith, aligned more)
 
