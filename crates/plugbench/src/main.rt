@@ -3,9 +3,10 @@
 // its end, and that what is handed on reaches standard output.
 #![tactic(auto)]
 
-ghost use Rattle.std.specs.Prelude.{◌≡◌, ◌≤◌, suc, length, IfOk};
+ghost use Rattle.std.specs.Prelude.{◌≡◌, ◌≤◌, suc, length, IfOk, OnOk};
+ghost use Rattle.std.specs.Io.KnownBytes.{Appends};
 ghost use Rattle.listing.specs.Records.{most_file};
-ghost use Rattle.plugrun.specs.Written.{pieces};
+ghost use Rattle.plugrun.specs.Written.{pieces, written};
 ghost use Rattle.plugrun.specs.Turn.{most_text, IsPiece};
 
 use lines::end_of;
@@ -52,7 +53,8 @@ fn write_piece<W: Write>(
     piece: &[u8],
 ) -> io::Result<usize>
     requires { IsPiece file.now number piece.now }
-    ensures { IfOk result (λ next. next ≡ suc number) }
+    ensures next { IfOk result (λ next. next ≡ suc number) }
+    ensures bytes { OnOk result (Appends (W.contents output.old) (W.contents output.new) piece.now) }
 {
     output.write_all(piece)?;
     Ok(number + 1)
@@ -60,7 +62,8 @@ fn write_piece<W: Write>(
 
 // Hands all pieces on, the first line and then the text of each record; answers how many they are.
 fn write_pieces<W: Write>(output: &mut W, file: &[u8]) -> io::Result<usize>
-    ensures { IfOk result (λ n. n ≡ length (pieces file.now)) }
+    ensures count { IfOk result (λ n. n ≡ length (pieces file.now)) }
+    ensures bytes { OnOk result (Appends (W.contents output.old) (W.contents output.new) (written file.now)) }
 {
     let mut flash = blank_flash();
     let mut reply = [0; MOST_ANSWER];

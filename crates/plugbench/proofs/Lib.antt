@@ -1,0 +1,2 @@
+-- What is proved of pieces that are handed on.
+mod HandedLaws
