@@ -1,6 +1,6 @@
 -- `reader::form::form_of` meets its contract: each arm is a row of the table.
 -- Assumes nothing.
-use Rattle.std.proofs.Common.{◌≡◌, ℕ, List, ◌∙◌, sym, ap, arith}
+use Rattle.std.proofs.Common.{◌≡◌, ℕ, List, ◌∙◌, sym, ap, arith, rules}
 use Rattle.std.proofs.lemmas.Grind.{common_steps}
 use Rattle.words.specs.Words.{high_first}
 use Rattle.command.specs.Form.{form, form_of, row}
@@ -16,10 +16,10 @@ pub returns-then-sent-lt-SHORTEST : goal.returns-then-sent-lt-SHORTEST
 returns-then-sent-lt-SHORTEST c = rw (form_short _ c.if-sent-lt-SHORTEST.true)
 
 pub returns-in-256 : goal.returns-in-256
-returns-in-256 c = by_row _ 0x0100 _ c.high_at-code.ensures c.in-256.is c.program_flash_form.ensures
+returns-in-256 c = by_row _ 0x0100 _ c.high_at-code.ensures c.in-256.is (search rules)
 
 pub returns-in-257 : goal.returns-in-257
-returns-in-257 c = by_row _ 0x0101 _ c.high_at-code.ensures c.in-257.is c.program_eeprom_form.ensures
+returns-in-257 c = by_row _ 0x0101 _ c.high_at-code.ensures c.in-257.is (search rules)
 
 pub returns-in-768 : goal.returns-in-768
 returns-in-768 c = by_row _ 0x0300 _ c.high_at-code.ensures c.in-768.is (c.exact.ensures ∙ rw c.flash_range.ensures)
