@@ -1,24 +1,15 @@
 -- The bytes of a program transfer lie between the two places that its parts name.
 -- Assumes nothing.
 use mathlib.Core.Path.{◌≡◌}
-use mathlib.Core.Bool.{false}
 use mathlib.Core.List.{List}
-use Prim.Native.Nat.{ℕ, ◌+◌, ◌-◌, ◌≤◌}
+use Prim.Native.Nat.{ℕ, ◌+◌, ◌-◌}
 use native.Mathlib.Omega.{arith}
 use lib.ListN.{length, take, drop}
 use Rattle.command.specs.declared.transfer.Transfer.{Transfer}
 use Rattle.command.specs.declared.transfer.Transfer.TheVariants.{Of, NoTransfer}
 use Rattle.command.specs.declared.reader.Parts.{Parts}
-use Rattle.command.specs.Transfer.{body_place, transfer_body, wrong_transfer}
+use Rattle.command.specs.Transfer.{body_place, transfer_body}
 use Rattle.command.specs.Reader.{transfer_parts}
-use Rattle.command.proofs.TransferLaws.{right_length}
-
-pub inside : (t : Transfer) (d : List ℕ) (p : Parts) → wrong_transfer t (length d) ≡ false → p ≡ transfer_parts t (length d)
-    → (p.body ≤ p.suffix) × (p.suffix ≤ length d)
-inside (Of x n) d p right q =
-    let whole = right_length x n d right in
-    rw q (omega arith, omega arith)
-inside NoTransfer d p right q = rw q (omega arith, omega arith)
 
 pub piece : (t : Transfer) (d : List ℕ) (p : Parts) → p ≡ transfer_parts t (length d) → take (p.suffix - p.body) (drop p.body d) ≡ transfer_body t d
 piece (Of x n) d p q =

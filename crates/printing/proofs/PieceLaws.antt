@@ -3,7 +3,6 @@
 use mathlib.Core.Path.{◌≡◌, refl}
 use mathlib.Core.List.{List, [], ◌∷◌, ◌++◌, append_assoc}
 use Prim.Native.Nat.{ℕ}
-use native.Mathlib.Omega.{arith}
 use lib.ListN.{length}
 use Rattle.lines.specs.Text.{ascii, decimal, hex_byte, hex_bytes}
 use Rattle.lines.specs.declared.line.Word.{Word}
@@ -23,11 +22,6 @@ refused_line_pieces k p = simp append_assoc
 pub head_line_pieces : (n : ℕ) (w : Word) (p : ℕ) → (decimal n ++ space) ++ (word_text w ++ space) ++ (decimal p ++ space) ≡ head_line n w p
 unfolding head_line
 head_line_pieces n w p = simp append_assoc
-
--- a reply of no bytes, and any other
-pub reply_text_none : (r : List ℕ) → length r ≡ 0 → reply_text r ≡ ascii "-"
-reply_text_none [] h = refl
-reply_text_none (b ∷ bs) h = absurd (omega arith)
 
 pub reply_text_some : (r : List ℕ) → (length r ≡ 0 → ⊥) → reply_text r ≡ hex_bytes r
 reply_text_some [] h = absurd (h refl)

@@ -3,16 +3,10 @@
 use mathlib.Core.Path.{◌≡◌}
 use mathlib.Core.List.{List, [], ◌∷◌, ◌++◌}
 use Prim.Native.Nat.{ℕ, ◌+◌, ◌%◌, ◌<◌}
-use native.Mathlib.Numerals.{add-one}
 use native.Mathlib.Omega.{arith}
-use lib.ListN.{length, drop, get_or, length-append}
-use lib.Seq.{drop-cons}
+use lib.ListN.{length, length-append}
 use Rattle.lines.proofs.TextLaws.{length_hex_bytes}
 use Rattle.record.specs.Record.{character_count, sum, checksum, record_of}
-
--- a byte, and the bytes after it
-pub sum_more : (bs : List ℕ) (i : ℕ) → i < length bs → sum (drop i bs) ≡ get_or bs i 0 + sum (drop (i + 1) bs)
-sum_more bs i h = rw (add-one, drop-cons bs i 0 h)
 
 -- a sum that goes on from a number below 256, which stands for all before it
 pub sum_on : (total b rest all : ℕ) → (total + (b + rest)) % 256 ≡ all → ((total + b) % 256 + rest) % 256 ≡ all

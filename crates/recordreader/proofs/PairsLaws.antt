@@ -1,14 +1,12 @@
 -- The loop that reads pairs of digits: what is left to read, with what is read, comes to what all comes to.
 -- Assumes nothing.
-use Rattle.std.proofs.Common.{◌≡◌, ℕ, suc, ◌+◌, ◌*◌, ◌%◌, ◌<◌, ◌≤◌, true, false, List, [], ◌∷◌, length, get_or, drop}
-use Rattle.std.proofs.Common.{set, sym, refl, ap, ◌∙◌, arith, length-drop, length-set, drop_of_length-le, drop-cons, eq-eqb}
+use Rattle.std.proofs.Common.{◌≡◌, ℕ, suc, ◌+◌, ◌*◌, ◌%◌, ◌<◌, ◌≤◌, List, [], ◌∷◌, length, get_or, drop}
+use Rattle.std.proofs.Common.{set, ap, ◌∙◌, arith, length-drop, length-set, drop-cons}
 use Rattle.words.specs.Words.{overlay}
-use Rattle.words.proofs.WordsLaws.{overlay_none, overlay_append}
+use Rattle.words.proofs.WordsLaws.{overlay_append}
 use Rattle.lines.proofs.RoomLaws.{byte_stands}
 use Rattle.record.specs.Digits.{no_digit, digit_value, all_digits}
 use Rattle.record.specs.Record.{pairs, sum, bytes_of}
-use Rattle.record.specs.declared.reader.Pairs.TheVariants.{Total, NoDigit}
-use Rattle.record.specs.Reader.{pairs_read, Held}
 use Rattle.record.proofs.DigitsLaws.{is_digit_lem, length_pairs}
 use Rattle.record.proofs.RecordLaws.{sum_on}
 
@@ -23,9 +21,6 @@ pub record Going (cs before held : List ℕ) (i total : ℕ) : Type 0 where
   pub bytes_left : overlay i (pairs (left cs i)) held ≡ overlay 0 (bytes_of cs) before
   pub sum_left : (total + sum (pairs (left cs i))) % 256 ≡ sum (bytes_of cs) % 256
   pub small : total < 256
-
-pub going_none : (cs m : List ℕ) → Going cs m m 0 0
-going_none cs m = record { same_size = refl; digits_left = refl; bytes_left = refl; sum_left = omega arith; small = omega arith }
 
 module _ (cs before : List ℕ) (count : ℕ) (pre : (length cs ≡ suc (2 * count)) × (count ≤ length before)) where
   -- the next pair, and what is left after it
@@ -57,24 +52,3 @@ module _ (cs before : List ℕ) (count : ℕ) (pre : (length cs ≡ suc (2 * cou
           sum_left = rw e (sum_on total b _ _ (rw pair at g.sum_left));
           small = omega arith;
         }
-
-    -- a character that is no digit
-    no_digit_lem : all_digits (left cs i) ≡ false → (NoDigit ≡ pairs_read cs) × Held cs before held
-    no_digit_lem h =
-        let none : all_digits (drop 1 cs) ≡ false = g.digits_left ∙ h in
-        (rw none, λ d. absurd (let z : ◌≡◌ {A = ℕ} 0 1 = cc in omega arith))
-
-    pub no_high : (high : ℕ) → i < count → high ≡ digit_value (get_or cs (1 + 2 * i) 0) → high ≡ no_digit → (NoDigit ≡ pairs_read cs) × Held cs before held
-    no_high high h p u = no_digit_lem (rw (next_pair i h, ← p, eq-eqb high no_digit u))
-
-    pub no_low : (high low : ℕ) → i < count → high ≡ digit_value (get_or cs (1 + 2 * i) 0) → (high ≡ no_digit → ⊥)
-        → low ≡ digit_value (get_or cs (2 + 2 * i) 0) → low ≡ no_digit → (NoDigit ≡ pairs_read cs) × Held cs before held
-    no_low high low h p u q v = no_digit_lem (rw (next_pair i h, is_digit_lem _ high p u, ← q, eq-eqb low no_digit v))
-
-    -- all pairs are read
-    pub going_all : count ≤ i → (Total total ≡ pairs_read cs) × Held cs before held
-    going_all h =
-        let none : left cs i ≡ [] = drop_of_length-le cs {i = 1 + 2 * i} (omega arith) in
-        let digits : all_digits (drop 1 cs) ≡ true = g.digits_left ∙ ap all_digits none in
-        let total-is : total ≡ sum (bytes_of cs) % 256 = omega (arith, ap (λ l. sum (pairs l)) none) in
-        (rw (digits, total-is), λ d. sym (overlay_none i held) ∙ rw none at g.bytes_left)

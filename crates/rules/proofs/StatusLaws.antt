@@ -15,7 +15,6 @@ use Rattle.words.proofs.WordsLaws.{overlay_front}
 use Rattle.config.specs.declared.config.Config.{Config}
 use Rattle.rules.specs.Session.{Session, idle_with}
 use Rattle.rules.specs.Result.{Answer, reply, answer, Done}
-use Rattle.rules.specs.Commands.{stall}
 use Rattle.rules.specs.Requests.{clear_in}
 use Rattle.rules.specs.Answered.{bare}
 
@@ -40,6 +39,3 @@ none_of (k ∷ k' ∷ ks) n h = rw (ne_eqb n k (λ e. h (inl e))) (none_of (k' �
 module _ (states : List ℕ) (busy : ℕ) (s : Session) (c : Config) (a : Answer) where
   pub clears : among s.state states ≡ true → a ≡ answer (reply c Done [] (idle_with busy)) → a ≡ answer (clear_in states busy (bare s c))
   clears q p = rw q p
-
-  pub stalls : among s.state states ≡ false → a ≡ answer (stall (bare s c)) → a ≡ answer (clear_in states busy (bare s c))
-  stalls q p = rw q p

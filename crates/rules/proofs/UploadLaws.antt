@@ -18,13 +18,12 @@ use Rattle.memory.specs.declared.address.FlashAddress.{FlashAddress}
 use Rattle.memory.specs.declared.address.Range.{Range}
 use Rattle.memory.specs.declared.address.Range.TheVariants.{Flash, Eeprom}
 use Rattle.config.specs.declared.config.Config.{Config}
-use Rattle.command.specs.Address.{bad_range}
 use Rattle.command.proofs.AddressLaws.{Good, bad_ends_good}
 use Rattle.rules.specs.Session.{Session, idle_with, Pending, Nothing, MemoryRead, BlankReport, OneByte}
 use Rattle.rules.specs.Result.{Board, board, Answer, answer}
 use Rattle.rules.specs.Commands.{stall}
 use Rattle.rules.specs.Requests.{sendable, range_content, pending_bytes, pending_count, rest_of, pending_after, send, upload_states, upload}
-use Rattle.rules.specs.Answered.{bare, Replied, Sizes, Sendable, Splits, first_of, send_pending, sent_answer}
+use Rattle.rules.specs.Answered.{bare, Replied, Sizes, Sendable, first_of, send_pending, sent_answer}
 use Rattle.rules.proofs.StatusLaws.{reply_laid}
 use Rattle.rules.proofs.PerformLaws.{selected_sized}
 
@@ -121,15 +120,6 @@ module _ (busy : ℕ) (c : Config) (f e p : List ℕ) (n k : ℕ) (p' : List ℕ
     reads_all l j g q =
         whole_part b (MemoryRead r) (range_start r) (range_end r) n k (selected r f e) p p' (bytes_of r) refl good.forward
         (inside_of r h.ready.sizes good.inside) roomy h.some_asked l j g q
-
--- a range with more than n bytes splits after them, and n bytes on is still a word
-pub splits : (r : Range) (n : ℕ) → 0 < n → n < range_count r → bad_range r ≡ false → Splits n r
-splits r n a l h =
-    record { some_asked = a; more = omega arith; inside = (bad_ends_good (memory_size r) (range_start r) (range_end r) h).inside }
-
-pub in_word : (r : Range) (n : ℕ) → Splits n r → range_start r + n < 65536
-in_word (Flash x y) n p = let m = p.more in let i = p.inside in omega arith
-in_word (Eeprom x y) n p = let m = p.more in let i = p.inside in omega arith
 
 -- a blank report and one byte
 module _ (busy : ℕ) (c : Config) (n : ℕ) (p p' : List ℕ) (room : 1024 ≤ length p) where

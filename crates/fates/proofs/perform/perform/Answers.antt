@@ -1,6 +1,6 @@
 -- `fates::perform::perform` meets its contract: each arm is a row of the command table.
 -- Assumes nothing.
-use Rattle.std.proofs.Common.{◌≡◌, ℕ, ◌-◌, List, length, take, drop, ap, ◌∙◌}
+use Rattle.std.proofs.Common.{◌≡◌, ℕ, ◌-◌, List, take, drop, ap, ◌∙◌}
 use mathlib.Core.Option.{some}
 use mathlib.Core.Path.{subst}
 use Rattle.memory.proofs.PageCountLaws.{flash_stores_few, block_erase_few, chip_erase_few}
