@@ -1,8 +1,8 @@
 -- The pieces of a file's text, one after another: each turn gives the next, and after the last none is left.
 -- Assumes nothing.
 use Rattle.std.specs.Prelude.{if◌then◌else◌}
-use mathlib.Core.Logic.{◌⊎◌, inl, inr, ⊎_elim}
-use mathlib.Core.Path.{◌≡◌, refl, sym, ap, subst, ◌∙◌}
+use mathlib.Core.Logic.{⊎_elim}
+use mathlib.Core.Path.{◌≡◌, refl, sym, ap, ◌∙◌}
 use mathlib.Core.Bool.{Bool, true, false}
 use mathlib.Core.List.{List, [], ◌∷◌}
 use Prim.Native.Nat.{ℕ, zero, suc, ◌-◌, ◌≤◌, ◌<◌}
@@ -109,17 +109,6 @@ begun file p f e q = record {
   no_more_than_all = omega arith;
   number_small = omega arith;
 }
-
--- the same while pieces are handed on; the number 0 says that one could not be written
-abbrev pub Going : List ℕ → ℕ → Progress → List ℕ → Type 0
-Going file number p f = (number ≡ 0) ⊎ SoFar file number p f
-
-pub handed_on : (file : List ℕ) (number number' : ℕ) (p : Progress) (f : List ℕ) → (number' ≡ 0) ⊎ (number' ≡ suc number)
-    → SoFar file (suc number) p f → Going file number' p f
-handed_on file number number' p f o s = ⊎_elim (λ z. inl z) (λ n. inr (subst (λ (k : ℕ). SoFar file k p f) (sym n) s)) o
-
-pub not_stopped : (file : List ℕ) (number : ℕ) (p : Progress) (f : List ℕ) → Going file number p f → (number ≡ 0 → ⊥) → SoFar file number p f
-not_stopped file number p f g n = ⊎_elim (λ z. absurd (n z)) (λ s. s) g
 
 -- ---- a turn
 
