@@ -35,7 +35,8 @@ fn obey(
 {
     let level = config::level_of(config);
     let status = level_status(command, level);
-    if status != 0x00 {
+    let refused = status != 0x00;
+    if refused {
         return Obeyed::Sets(status);
     }
     match fit {
