@@ -4,8 +4,7 @@ use mathlib.Core.Path.{◌≡◌, refl, sym, ap, subst, ◌∙◌}
 use mathlib.Core.List.{List, [], ◌∷◌, ◌++◌, append_assoc, append-nil}
 use Prim.Native.Nat.{ℕ, suc, ◌+◌, ◌-◌, ◌*◌, ◌≤◌, ◌<◌}
 use native.Mathlib.Omega.{arith}
-use native.Mathlib.Numerals.{add-one}
-use lib.ListN.{length, take, drop, replicate, length-drop, length-append}
+use lib.ListN.{length, take, drop, replicate, length-drop}
 use lib.Seq.{length-take-le, take-take, take-add, take-append_seam, drop-drop, drop_at}
 use Rattle.words.specs.Words.{laid}
 use Rattle.config.specs.Config.{delivered_config}
@@ -59,20 +58,8 @@ module _ (file : List ℕ) (start size : ℕ) (p : Placed file start size) where
   stepped_asked b n a f e reply reply₀ h s = rw (setup_part, data_part, h) at s
 
 module _ (b : Board) (r : Result) (a : Answer) (f e reply reply₀ : List ℕ) (s : Stepped b r a f e reply reply₀) where
-  pub sent_within : a.length ≤ length reply
-  sent_within = omega (arith, ap (λ (x : Answer). x.length) s.answered, ap length s.reply, length-append r.sent (drop (length r.sent) reply₀))
-
   answer_line_lem : (number : ℕ) → answer_line number a reply ≡ result_line number r
   answer_line_lem number = rw (s.answered, s.reply, take-append_seam r.sent (drop (length r.sent) reply₀))
-
-  pub ran : (p : Progress) (place : ℕ) (room₀ room : List ℕ) → Stands p.place (answer_line p.number a reply) room₀ place room → place ≤ p.place + most_line
-      → Ran p b r (record { session = a.session; config = a.config; number = p.number + 1; place = place }) f e room₀ room
-  ran p place room₀ room w h = record {
-    board_after = ap (λ (x : Answer). board x.session x.config f e) s.answered ∙ rw (s.flash, s.eeprom);
-    number_after_lem = add-one p.number;
-    line = subst (λ (t : List ℕ). Stands p.place t room₀ place room) (answer_line_lem p.number) w;
-    line_short = h;
-  }
 
 -- a request's line fits
 pub line_stands : (number place end : ℕ) (a : Answer) (w : Word) (reply room₀ room : List ℕ) (q : Put)
