@@ -5,7 +5,7 @@ use mathlib.Core.List.{List, [], ◌∷◌, ◌++◌, append_assoc, append-nil}
 use Prim.Native.Nat.{ℕ, suc, ◌+◌, ◌-◌, ◌*◌, ◌≤◌, ◌<◌}
 use native.Mathlib.Omega.{arith}
 use lib.ListN.{length, take, drop, replicate, length-drop}
-use lib.Seq.{length-take-le, take-take, take-add, take-append_seam, drop-drop, drop_at}
+use lib.Seq.{length-take-le, take-take, take-add, drop-drop, drop_at}
 use Rattle.words.specs.Words.{laid}
 use Rattle.config.specs.Config.{delivered_config}
 use Rattle.memory.specs.Memory.{eeprom_size, blank_flash}
@@ -56,10 +56,6 @@ module _ (file : List ℕ) (start size : ℕ) (p : Placed file start size) where
       → Stepped b (ask b (take (start + 8 - start) (drop start file)) (take (start + size - (start + 8)) (drop (start + 8) file)) n) a f e reply reply₀
       → Stepped b (asked file (span start size) b) a f e reply reply₀
   stepped_asked b n a f e reply reply₀ h s = rw (setup_part, data_part, h) at s
-
-module _ (b : Board) (r : Result) (a : Answer) (f e reply reply₀ : List ℕ) (s : Stepped b r a f e reply reply₀) where
-  answer_line_lem : (number : ℕ) → answer_line number a reply ≡ result_line number r
-  answer_line_lem number = rw (s.answered, s.reply, take-append_seam r.sent (drop (length r.sent) reply₀))
 
 -- a request's line fits
 pub line_stands : (number place end : ℕ) (a : Answer) (w : Word) (reply room₀ room : List ℕ) (q : Put)
