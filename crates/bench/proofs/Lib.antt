@@ -1,0 +1,2 @@
+-- The size of a room.
+mod RoomLaws
