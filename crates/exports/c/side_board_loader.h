@@ -1,4 +1,4 @@
-/* The side board's loader, for a program in C: the functions of the static library that `rt staticlib exports` writes. example.c is a
+/* The side board's loader, for a program in C: the functions of the static library that `rt lib` writes in crates/exports. example.c is a
  * program that calls it; README.md has the lines that build it.
  *
  * Each function answers for every input; its promise stands in crates/exports/src. It relies on this alone: a pointer before a
