@@ -1,2 +1,3 @@
--- The size of a room.
+-- The size of a room, and what is read to it.
 mod RoomLaws
+mod ReadLaws

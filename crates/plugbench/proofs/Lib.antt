@@ -1,3 +1,4 @@
--- The size of a room, and what is proved of pieces that are handed on.
+-- The size of a room, what is read to it, and what is proved of pieces that are handed on.
 mod RoomLaws
+mod ReadLaws
 mod HandedLaws

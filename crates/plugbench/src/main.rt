@@ -3,8 +3,8 @@
 // its end, and that what is handed on reaches standard output.
 #![tactic(auto)]
 
-ghost use Rattle.std.specs.Prelude.{◌≡◌, ◌≤◌, suc, length, IfOk, OnOk};
-ghost use Rattle.std.specs.Io.KnownBytes.{Appends};
+ghost use Rattle.std.specs.Prelude.{◌≡◌, ◌≤◌, ◌<◌, suc, length, take, IfOk, OnOk};
+ghost use Rattle.std.specs.Io.KnownBytes.{Appends, Consumes, IsAtEnd};
 ghost use Rattle.listing.specs.Records.{most_file};
 ghost use Rattle.plugrun.specs.Written.{pieces, written};
 ghost use Rattle.plugrun.specs.Turn.{most_text, IsPiece};
@@ -32,7 +32,9 @@ fn text_room() -> [u8; MOST_TEXT]
 
 // Reads until the room is full or the input ends; answers how many bytes now stand at the front of the room.
 fn read_full<R: Read>(input: &mut R, room: &mut [u8]) -> io::Result<usize>
-    ensures { IfOk result (λ n. n ≤ length room.new) }
+    ensures size { IfOk result (λ n. n ≤ length room.new) }
+    ensures bytes { IfOk result (λ n. Consumes (R.remaining input.old) (R.remaining input.new) (take n room.new)) }
+    ensures end { IfOk result (λ n. n < length room.new → IsAtEnd (R.remaining input.new)) }
 {
     let mut size = 0;
     while size < room.len() {
