@@ -9,7 +9,7 @@ use lib.ListN.{length, get_or, length-replicate, get_or-replicate}
 use borrow.Author.Tests.{eq-eqb}
 use Rattle.words.specs.Words.{count}
 use Rattle.memory.specs.Memory.{flash_size, blank_flash}
-use Rattle.memory.specs.Pages.{Block, Low, Middle, High, store_all, pages_met, block_start, block_end, block_fF, block_stores}
+use Rattle.memory.specs.Pages.{Block, Low, Middle, High, store_all, pages_met, block_start, block_end, block_ff, block_stores}
 use Rattle.memory.specs.Erase.{block_erase, chip_erase}
 use Rattle.memory.specs.Blocks.{Erased, Erases, BlocksErased}
 use Rattle.memory.proofs.PagesLaws.{block_stores_programmed, length_block_stores, rising_block_stores}
@@ -22,14 +22,14 @@ module _ (m : List ℕ) (size : length m ≡ flash_size) where
       let p = block_stores_programmed k m size in
       let a : ℕ = block_start k in
       let e : ℕ = block_end k in
-      let n : length (block_fF k) ≡ count a e = length-replicate {A = ℕ} (count a e) 0xFF in
+      let n : length (block_ff k) ≡ count a e = length-replicate {A = ℕ} (count a e) 0xFF in
       rw (eq-eqb (length m) flash_size size) (record {
         same_size = p.same_size;
         blank = λ i h l.
             let on : a + (i - a) ≡ i = omega arith in
             ap (λ j. get_or (store_all (block_stores k m) m) j 0) (sym on) ∙ p.new_values (i - a) (omega arith)
             ∙ get_or-replicate (count a e) (i - a) 0xFF 0 (omega arith);
-        others_stay = λ i h. p.others_stay i (outside a e (length (block_fF k)) i (omega arith) h);
+        others_stay = λ i h. p.others_stay i (outside a e (length (block_ff k)) i (omega arith) h);
         page_count_lem = length_block_stores k m;
         rising = rising_block_stores k m size;
       })

@@ -3,7 +3,7 @@
 use Rattle.std.specs.Prelude.{◌↔◌, ◌≡◌, true, List, [], ◌∷◌, ℕ, ◌+◌, ◌-◌, ◌*◌, ◌/◌, ◌%◌, ◌≤◌, ◌<◌, length, replicate}
 use Rattle.words.specs.Words.{overlay, Programmed}
 use Rattle.memory.specs.Memory.{FlashAddress, Page}
-use Rattle.memory.specs.Pages.{Block, Low, Middle, High, block_start, block_fF, block_stores, chip_stores}
+use Rattle.memory.specs.Pages.{Block, Low, Middle, High, block_start, block_ff, block_stores, chip_stores}
 use Rattle.memory.specs.Pages.{Store, Rising, store_all, page_store, pages_met, program_stores}
 use Rattle.memory.specs.Program.{Programmable, programmable, flash_stores, bytes_stores}
 use Rattle.memory.specs.Erase.{block_erase, chip_erase, pages_erase}
@@ -68,6 +68,6 @@ pub record RequestsStore : Type 0 where
   -- stores are made one after another, each page in its place of 128 bytes
   pub store_first : (s : Store) (ss : List Store) (m : List ℕ) → store_all (s ∷ ss) m ≡ store_all ss (overlay (128 * s.page.0) s.bytes m)
   pub no_store : (m : List ℕ) → store_all [] m ≡ m
-  pub low : (block_start Low ≡ 0x0000) × (block_fF Low ≡ replicate 8192 0xFF)
-  pub middle : (block_start Middle ≡ 0x2000) × (block_fF Middle ≡ replicate 8192 0xFF)
-  pub high : (block_start High ≡ 0x4000) × (block_fF High ≡ replicate 16384 0xFF)
+  pub low : (block_start Low ≡ 0x0000) × (block_ff Low ≡ replicate 8192 0xFF)
+  pub middle : (block_start Middle ≡ 0x2000) × (block_ff Middle ≡ replicate 8192 0xFF)
+  pub high : (block_start High ≡ 0x4000) × (block_ff High ≡ replicate 16384 0xFF)

@@ -24,7 +24,7 @@ use Rattle.listing.specs.declared.walk.Met.TheVariants.{Record, NoMore}
 use Rattle.listing.proofs.LineLaws.{which}
 use Rattle.listing.proofs.RecordsLaws.{Steps, steps, from_none, no_more, records_few}
 use Rattle.plug.specs.Step.{Board, board, Result, next, blank_flash}
-use Rattle.plugrun.specs.Written.{record_text, asked, start_board, record_texts, first_text, pieces, in_aRow, written}
+use Rattle.plugrun.specs.Written.{record_text, asked, start_board, record_texts, first_text, pieces, in_a_row, written}
 use Rattle.plugrun.specs.Turn.{Progress, Turn, Took, AllTaken, Left, progress, board_at, took, met_turn, turned}
 use Rattle.plugrun.specs.Turn.{most_text, start_place, start_progress, IsPiece, HandedOnInOrder}
 use Rattle.plugrun.proofs.TurnLaws.{text_front, record_text_le}
@@ -72,7 +72,7 @@ pub handed_on_in_order : HandedOnInOrder
 unfolding written
 handed_on_in_order = record {
   each = λ file number h. record { the_piece = refl; there = h; number_small = omega (arith, pieces_few file) };
-  all = λ file texts l each. ap in_aRow (ext_get_or [] texts (pieces file) l (λ i h. (each i h).the_piece));
+  all = λ file texts l each. ap in_a_row (ext_get_or [] texts (pieces file) l (λ i h. (each i h).the_piece));
 }
 
 -- ---- a run

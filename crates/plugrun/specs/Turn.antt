@@ -10,7 +10,7 @@ use Rattle.listing.specs.declared.walk.Met.TheVariants.{Record, NoMore}
 use Rattle.plug.specs.declared.board.Config.{Config}
 use Rattle.plug.specs.declared.answer.Answer.{Answer}
 use Rattle.plug.specs.Step.{Board, board, Result, next, answer, step}
-use Rattle.plugrun.specs.Written.{word_of, answer_text, record_text, asked, start_config, start_board, pieces, in_aRow, written}
+use Rattle.plugrun.specs.Written.{word_of, answer_text, record_text, asked, start_config, start_board, pieces, in_a_row, written}
 pub use Rattle.plugrun.specs.declared.turn.Progress.{Progress}
 pub use Rattle.plugrun.specs.declared.turn.Turn.{Turn}
 pub use Rattle.plugrun.specs.declared.turn.Turn.TheVariants.{Took, AllTaken}
@@ -108,4 +108,4 @@ pub record IsPiece (file : List ℕ) (number : ℕ) (text : List ℕ) : Type 0 w
 pub record HandedOnInOrder : Type 0 where
   pub each : (file : List ℕ) (number : ℕ) → number < length (pieces file) → IsPiece file number (get_or (pieces file) number [])
   pub all : (file : List ℕ) (texts : List (List ℕ)) → length texts ≡ length (pieces file)
-      → ((i : ℕ) → i < length texts → IsPiece file i (get_or texts i [])) → in_aRow texts ≡ written file
+      → ((i : ℕ) → i < length texts → IsPiece file i (get_or texts i [])) → in_a_row texts ≡ written file

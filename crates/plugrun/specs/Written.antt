@@ -72,12 +72,12 @@ unfoldable pub pieces : List ℕ → List (List ℕ)
 pieces file = first_text file ∷ record_texts file (start_board file) 1 (records_of file)
 
 -- all that the program writes for a file
-abbrev pub in_aRow : List (List ℕ) → List ℕ
-in_aRow [] = []
-in_aRow (x ∷ xs) = x ++ in_aRow xs
+abbrev pub in_a_row : List (List ℕ) → List ℕ
+in_a_row [] = []
+in_a_row (x ∷ xs) = x ++ in_a_row xs
 
 unfoldable pub written : List ℕ → List ℕ
-written file = in_aRow (pieces file)
+written file = in_a_row (pieces file)
 
 -- the same in parts, of every file, board and result
 pub record Parts : Type 0 where
@@ -96,9 +96,9 @@ pub record Parts : Type 0 where
   pub asks : (file : List ℕ) (s : Span) (b : Board) → asked file s b ≡ answer b (take (s.end - s.start) (drop s.start file))
   pub all : (file : List ℕ) → pieces file ≡ first_text file ∷ record_texts file (start_board file) 1 (records_of file)
   -- one piece after another, and nothing between them or behind them
-  pub in_a_row : (file : List ℕ) → written file ≡ in_aRow (pieces file)
-  pub piece_and_rest : (x : List ℕ) (xs : List (List ℕ)) → in_aRow (x ∷ xs) ≡ x ++ in_aRow xs
-  pub no_piece : in_aRow [] ≡ []
+  pub in_a_row_lem : (file : List ℕ) → written file ≡ in_a_row (pieces file)
+  pub piece_and_rest : (x : List ℕ) (xs : List (List ℕ)) → in_a_row (x ∷ xs) ≡ x ++ in_a_row xs
+  pub no_piece : in_a_row [] ≡ []
   pub no_record : (file : List ℕ) (b : Board) (number : ℕ) → record_texts file b number [] ≡ []
   pub first : (file : List ℕ) → length file ≤ 1048576 → first_text file ≡ ascii "records " ++ decimal (record_count file) ++ ascii "\n"
 

@@ -4,7 +4,7 @@ use Rattle.std.specs.Prelude.{◌≡◌, true, List, [], ◌∷◌, ℕ, ◌≤�
 use Rattle.std.proofs.Math.Option.{Option, none, some}
 use Rattle.words.specs.Words.{among, Programmed}
 use Rattle.memory.specs.Memory.{blank_flash}
-use Rattle.memory.specs.Pages.{pages_met, block_start, block_fF}
+use Rattle.memory.specs.Pages.{pages_met, block_start, block_ff}
 use Rattle.config.specs.Config.{with_byte, with_hsb, erased_config}
 use Rattle.config.specs.Level.{level}
 use Rattle.memory.specs.declared.address.Block.TheVariants.{Low, Middle, High}
@@ -52,7 +52,7 @@ FlashAfter (some (ProgramFlash a e)) d before after = Programmed a.0 (body_of a.
 FlashAfter (some (ProgramEeprom a e)) d before after = after ≡ before
 FlashAfter (some (Read r)) d before after = after ≡ before
 FlashAfter (some (BlankCheck a e)) d before after = after ≡ before
-FlashAfter (some (EraseBlock k)) d before after = Programmed (block_start k) (block_fF k) before after
+FlashAfter (some (EraseBlock k)) d before after = Programmed (block_start k) (block_ff k) before after
 FlashAfter (some EraseChip) d before after = after ≡ blank_flash
 FlashAfter (some (WriteByte i v)) d before after = after ≡ before
 FlashAfter (some (WriteHsb v)) d before after = after ≡ before

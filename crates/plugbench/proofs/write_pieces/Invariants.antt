@@ -2,7 +2,7 @@
 -- it is. The measure is the bytes left.
 use Rattle.std.proofs.Common.{◌≡◌, length, ◌-◌, take}
 use Rattle.std.specs.Io.KnownBytes.{Appends}
-use Rattle.plugrun.specs.Written.{pieces, in_aRow}
+use Rattle.plugrun.specs.Written.{pieces, in_a_row}
 use Rattle.plugrun.specs.Turn.{most_text}
 use Rattle.plugrun.proofs.PiecesLaws.{SoFar}
 use Rattle.plugbench.proofs.write_pieces.Given as goal
@@ -10,7 +10,7 @@ use Rattle.plugbench.proofs.write_pieces.Given as goal
 abbrev pub invariant-loop-next : goal.invariant-loop-next
 invariant-loop-next g l = SoFar l.file l.number l.progress l.flash
     × (length l.room ≡ most_text)
-    × Appends (g.W.Write.contents l.fn.output) (g.W.Write.contents l.output) (in_aRow (take l.number (pieces l.file)))
+    × Appends (g.W.Write.contents l.fn.output) (g.W.Write.contents l.output) (in_a_row (take l.number (pieces l.file)))
 
 abbrev pub decreases-loop-next : goal.decreases-loop-next
 decreases-loop-next g l = length l.file - l.progress.at

@@ -4,7 +4,7 @@ use Rattle.std.proofs.Common.{◌≡◌, ℕ, ◌∙◌, length, List, sym}
 use borrow.Author.Tests.{eq-eqb, ne_eqb}
 use Rattle.words.specs.Words.{overlay}
 use Rattle.memory.specs.Memory.{flash_size}
-use Rattle.memory.specs.Pages.{Block, Low, Middle, High, store_all, pages_met, block_start, block_end, block_fF}
+use Rattle.memory.specs.Pages.{Block, Low, Middle, High, store_all, pages_met, block_start, block_end, block_ff}
 use Rattle.memory.specs.Erase.{block_erase}
 use Rattle.memory.proofs.PagesLaws.{store_all_block_stores, length_block_stores}
 use Rattle.memory.proofs.erase.erase_block.Goals as goal
@@ -23,7 +23,7 @@ count_erased : (k k₀ : Block) (m : List ℕ) (r : ℕ) → k ≡ k₀ → leng
 unfolding block_erase
 count_erased k k₀ m r q h p = rw (q, eq-eqb (length m) flash_size h) (p ∙ sym (length_block_stores k₀ m))
 
-erased : (k k₀ : Block) (m m' : List ℕ) → k ≡ k₀ → length m ≡ flash_size → m' ≡ overlay (block_start k₀) (block_fF k₀) m
+erased : (k k₀ : Block) (m m' : List ℕ) → k ≡ k₀ → length m ≡ flash_size → m' ≡ overlay (block_start k₀) (block_ff k₀) m
     → m' ≡ store_all (block_erase k m) m
 unfolding block_erase
 erased k k₀ m m' q h e = rw (q, eq-eqb (length m) flash_size h) (e ∙ sym (store_all_block_stores k₀ m h))
