@@ -8,7 +8,7 @@ use lib.ListN.{length, length-append}
 use Rattle.lines.specs.Text.{most_digits}
 use Rattle.lines.specs.Line.{Word, Done, Stall, Start, Answered, Reset, Refused, word_text, reply_text}
 use Rattle.lines.specs.Line.{request_line, job_line, refused_line, records_line, head_line}
-use Rattle.lines.specs.Line.{most_line, most_refused_line, most_records_line, most_head}
+use Rattle.lines.specs.Line.{most_line, most_job_line, most_refused_line, most_records_line, most_head}
 use Rattle.lines.specs.Room.{request_size, job_size, refused_size, records_size, head_size}
 use Rattle.lines.proofs.TextLaws.{length_decimal, length_hex_bytes}
 
@@ -56,6 +56,9 @@ request_line_le n w st s p r h = omega (
   length_word_text w,
   reply_text_le r h,
 )
+
+pub job_line_le : (n : ℕ) → length (job_line n) ≤ most_job_line
+job_line_le n = omega (arith, length_job_line n, length_decimal n)
 
 pub refused_line_le : (k p : ℕ) → length (refused_line k p) ≤ most_refused_line
 refused_line_le k p = omega (arith, length_refused_line k p, length_decimal k, length_decimal p)

@@ -1,4 +1,2 @@
--- The size of a room, what is read to it, and what is proved of pieces that are handed on.
-mod RoomLaws
-mod ReadLaws
+-- What is proved of pieces that are handed on. The laws of rooms are those of crates/lines.
 mod HandedLaws

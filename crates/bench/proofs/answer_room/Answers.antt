@@ -1,6 +1,6 @@
 -- `bench::answer_room` meets its contract.
 -- Assumes nothing.
-use Rattle.bench.proofs.RoomLaws.{array_size}
+use Rattle.lines.proofs.RoomLaws.{array_size}
 use Rattle.bench.proofs.answer_room.Goals as goal
 
 pub returns : goal.returns

@@ -1,6 +1,6 @@
 -- `bench::file_room` meets its contract: one byte more than a job may have.
 -- Assumes nothing.
-use Rattle.bench.proofs.RoomLaws.{array_size}
+use Rattle.lines.proofs.RoomLaws.{array_size}
 use Rattle.bench.proofs.file_room.Goals as goal
 
 pub returns : goal.returns

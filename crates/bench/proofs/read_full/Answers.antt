@@ -1,6 +1,6 @@
 -- `bench::read_full` meets its contract: what is read comes behind what was read before.
 -- Assumes nothing.
-use Rattle.bench.proofs.ReadLaws.{within, given}
+use Rattle.lines.proofs.ReadLaws.{within, given}
 use Rattle.bench.proofs.read_full.Goals as goal
 
 pub loop-size-preserved : goal.loop-size-preserved

@@ -1,6 +1,6 @@
 -- `plugbench::read_full` meets its contract: what is read comes behind what was read before.
 -- Assumes nothing.
-use Rattle.plugbench.proofs.ReadLaws.{within, given}
+use Rattle.lines.proofs.ReadLaws.{within, given}
 use Rattle.plugbench.proofs.read_full.Goals as goal
 
 pub loop-size-preserved : goal.loop-size-preserved

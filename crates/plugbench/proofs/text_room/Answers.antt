@@ -1,6 +1,6 @@
 -- `plugbench::text_room` meets its contract.
 -- Assumes nothing.
-use Rattle.plugbench.proofs.RoomLaws.{array_size}
+use Rattle.lines.proofs.RoomLaws.{array_size}
 use Rattle.plugbench.proofs.text_room.Goals as goal
 
 pub returns : goal.returns

@@ -1,14 +1,10 @@
 -- `run::answer::run_accepted` meets its contract: the line that states the count stands first, and leaves room for the rest.
 -- Assumes nothing.
-use Rattle.std.proofs.Common.{arith, ℕ, ◌≤◌, length}
-use Rattle.lines.specs.Line.{job_line, most_job_line}
-use Rattle.lines.proofs.LineLaws.{length_job_line}
-use Rattle.lines.proofs.TextLaws.{length_decimal}
+use Rattle.std.proofs.Common.{arith}
+use Rattle.lines.specs.Line.{most_job_line}
+use Rattle.lines.proofs.LineLaws.{job_line_le}
 use Rattle.run.proofs.RunLaws.{front_stands, ready, job_stands}
 use Rattle.run.proofs.answer.run_accepted.Goals as goal
-
-job_line_le : (n : ℕ) → length (job_line n) ≤ most_job_line
-job_line_le n = omega (arith, length_job_line n, length_decimal n)
 
 pub run_all-requires : goal.run_all-requires
 run_all-requires c =

@@ -1,4 +1,4 @@
--- What is read to the place behind what was read before, and what a reader has given then.
+-- Bytes read to a room behind those that were read before, and what the reader has given then: for each program that reads.
 -- Assumes nothing.
 use Rattle.std.proofs.Common.{◌≡◌, ℕ, ◌+◌, ◌-◌, ◌≤◌, List, ◌++◌, length, take, ap, subst, ◌∙◌, arith, length-take-le}
 use lib.ListN.{length-append}

@@ -1,3 +1,0 @@
--- The size of a room, and what is read to it.
-mod RoomLaws
-mod ReadLaws
