@@ -1,6 +1,5 @@
 -- The blank check's finding: the first byte of a range that is not FFh. Assumes nothing: these are definitions and a statement.
-use Rattle.std.specs.Prelude.{if◌then◌else◌, List, [], ◌∷◌, ◌↔◌, ◌≡◌, ℕ, suc, ◌≤◌, ◌<◌, max, eqb, length, get_or}
-use Rattle.std.proofs.Math.Option.{Option, none, some}
+use Rattle.std.specs.Prelude.{if◌then◌else◌, List, [], ◌∷◌, ◌↔◌, ◌≡◌, ℕ, suc, ◌≤◌, ◌<◌, max, eqb, length, get_or, Option, None, Some}
 use Rattle.words.specs.Words.{part}
 use Rattle.memory.specs.Memory.{flash_address}
 pub use Rattle.blank.specs.declared.search.Used.{Used}
@@ -8,8 +7,8 @@ pub use Rattle.blank.specs.declared.search.Used.TheVariants.{At, Nowhere}
 
 -- the address of the first byte that is not FFh, of bytes that stand from address a on
 abbrev pub first_used : ℕ → List ℕ → Option ℕ
-first_used a [] = none
-first_used a (x ∷ xs) = if eqb x 0xFF then first_used (suc a) xs else some a
+first_used a [] = None
+first_used a (x ∷ xs) = if eqb x 0xFF then first_used (suc a) xs else Some a
 
 -- "the first such address" from a to e of a flash
 unfoldable pub used_in : ℕ → ℕ → List ℕ → Option ℕ
@@ -18,8 +17,8 @@ used_in a e f = first_used a (part a e f)
 -- the same in numbers, of any range and flash: what lies past the flash's end is not looked at
 pub record FirstFound : Type 0 where
   pub found : (a e x : ℕ) (f : List ℕ) → a ≤ x → x ≤ e → x < length f → ((i : ℕ) → a ≤ i → i < x → get_or f i 0 ≡ 0xFF) → (get_or f x 0 ≡ 0xFF → ⊥)
-      → used_in a e f ≡ some x
-  pub none_found : (a e : ℕ) (f : List ℕ) → ((i : ℕ) → a ≤ i → i ≤ e → i < length f → get_or f i 0 ≡ 0xFF) → used_in a e f ≡ none
+      → used_in a e f ≡ Some x
+  pub none_found : (a e : ℕ) (f : List ℕ) → ((i : ℕ) → a ≤ i → i ≤ e → i < length f → get_or f i 0 ≡ 0xFF) → used_in a e f ≡ None
 
 -- the same blank bytes: FFh at the same addresses
 abbrev pub SameBlank : List ℕ → List ℕ → Type 0
@@ -37,8 +36,8 @@ pub record Passed (a stop r : ℕ) (f : List ℕ) : Type 0 where
 
 -- the finding as the search answers it
 abbrev pub used_of : Option ℕ → Used
-used_of none = Nowhere
-used_of (some x) = At (flash_address x)
+used_of None = Nowhere
+used_of (Some x) = At (flash_address x)
 
 -- "A blank check that meets a byte not FFh sets 05h", and "An accepted command sets status 00h": the status of each finding
 abbrev pub used_status : Used → ℕ
@@ -47,7 +46,7 @@ used_status Nowhere = 0x00
 
 -- the same in numbers, of every finding
 pub record FindingsTold : Type 0 where
-  pub found : (x : ℕ) → used_of (some x) ≡ At (flash_address x)
-  pub found_05h : (x : ℕ) → used_status (used_of (some x)) ≡ 0x05
-  pub nothing : used_of none ≡ Nowhere
-  pub nothing_00h : used_status (used_of none) ≡ 0x00
+  pub found : (x : ℕ) → used_of (Some x) ≡ At (flash_address x)
+  pub found_05h : (x : ℕ) → used_status (used_of (Some x)) ≡ 0x05
+  pub nothing : used_of None ≡ Nowhere
+  pub nothing_00h : used_status (used_of None) ≡ 0x00

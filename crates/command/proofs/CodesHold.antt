@@ -1,8 +1,8 @@
 -- Data that is a command begins with the command's code: each row of the table says which.
 -- Assumes nothing.
+use Rattle.std.specs.Prelude.{Option, None, Some}
 use mathlib.Core.Path.{◌≡◌, refl}
 use mathlib.Core.List.{List, [], ◌∷◌}
-use mathlib.Core.Option.{Option, none, some}
 use Prim.Native.Nat.{ℕ, ◌+◌, ◌*◌, ◌<◌}
 use native.Mathlib.Omega.{arith}
 use lib.Dec.{lit<}
@@ -39,10 +39,10 @@ module _ (x y z : ℕ) (rest : List ℕ) (byte : y < 256) where
   coded k (read_hsb_lem q t l) = three 0x05 0x02 0x00 (lit< tt) q t
 
   by_form : (o : Option Command) → form (x ∷ y ∷ z ∷ rest) ≡ o → BeginsWith (x ∷ y ∷ z ∷ rest) (form_code (form_of o))
-  by_form none q = refl
-  by_form (some k) q = coded k (formed (x ∷ y ∷ z ∷ rest) k q)
+  by_form None q = refl
+  by_form (Some k) q = coded k (formed (x ∷ y ∷ z ∷ rest) k q)
 
-unlisted : (d : List ℕ) → form d ≡ none → BeginsWith d (form_code (form_of (form d)))
+unlisted : (d : List ℕ) → form d ≡ None → BeginsWith d (form_code (form_of (form d)))
 unlisted d q = rw q
 
 pub forms_numbered : FormsNumbered

@@ -1,6 +1,5 @@
 -- 01's program transfer, and the order of the reader's answers, beside the definitions. Proved in proofs/LayoutHolds.antt.
-use Rattle.std.specs.Prelude.{◌≡◌, true, false, List, ◌++◌, ℕ, ◌+◌, ◌%◌, length}
-use Rattle.std.proofs.Math.Option.{none, some}
+use Rattle.std.specs.Prelude.{◌≡◌, true, false, List, ◌++◌, ℕ, ◌+◌, ◌%◌, length, None, Some}
 use Rattle.words.specs.Words.{count}
 use Rattle.memory.specs.declared.address.FlashAddress.{FlashAddress}
 use Rattle.memory.specs.declared.address.EepromAddress.{EepromAddress}
@@ -47,20 +46,20 @@ pub record Layout : Type 0 where
   pub whole : (k : Command) (a e n : ℕ) → Programs k a e → a + n ≡ e + 1 → (d : List ℕ) → bad_length k d ≡ false → length d ≡ 48 + a % 32 + n
   -- X and n of a command that programs
   pub transfer : (k : Command) (a e : ℕ) → Programs k a e → transfer_of k ≡ Of (a % 32) (count a e)
-  pub none : (k : Command) → ((a e : ℕ) → Programs k a e → ⊥) → transfer_of k ≡ NoTransfer
+  pub None : (k : Command) → ((a e : ℕ) → Programs k a e → ⊥) → transfer_of k ≡ NoTransfer
   -- no other command has bytes, a suffix or a whole length
   pub no_transfer : (k : Command) → ((a e : ℕ) → Programs k a e → ⊥) → (d : List ℕ) → CarriesNone k d
 
 -- "The reader answers the command, stall or 08h, in that order without the level.": "form, .. address .., and for program at last its whole
 -- length"
 pub record ReaderOrder : Type 0 where
-  pub unlisted : (d : List ℕ) → form d ≡ none → read_command d ≡ Stalls
-  pub bad_address_lem : (d : List ℕ) (k : Command) → form d ≡ some k → (AddressRight k → ⊥) → read_command d ≡ BadAddress
-  pub bad_length_lem : (d : List ℕ) (k : Command) → form d ≡ some k → AddressRight k → bad_length k d ≡ true → read_command d ≡ Stalls
-  pub taken : (d : List ℕ) (k : Command) → form d ≡ some k → AddressRight k → bad_length k d ≡ false → read_command d ≡ Taken k (parts_of k d)
+  pub unlisted : (d : List ℕ) → form d ≡ None → read_command d ≡ Stalls
+  pub bad_address_lem : (d : List ℕ) (k : Command) → form d ≡ Some k → (AddressRight k → ⊥) → read_command d ≡ BadAddress
+  pub bad_length_lem : (d : List ℕ) (k : Command) → form d ≡ Some k → AddressRight k → bad_length k d ≡ true → read_command d ≡ Stalls
+  pub taken : (d : List ℕ) (k : Command) → form d ≡ Some k → AddressRight k → bad_length k d ≡ false → read_command d ≡ Taken k (parts_of k d)
   -- the form as the code tells it
-  pub form_told : (k : Command) → form_of (some k) ≡ Is k
-  pub form_untold : form_of none ≡ Unlisted
+  pub form_told : (k : Command) → form_of (Some k) ≡ Is k
+  pub form_untold : form_of None ≡ Unlisted
   -- "status 00h", "stall", "08h"
   pub taken_00h : (k : Command) (p : Parts) → reading_status (Taken k p) ≡ 0x00
   pub stall_0fh : reading_status Stalls ≡ 0x0F

@@ -1,6 +1,5 @@
 -- 01's table of commands, row by row, in bytes, beside the definition of `form`. Proved in proofs/RowsHold.antt.
-use Rattle.std.specs.Prelude.{◌≡◌, List, [], ◌∷◌, ℕ, ◌+◌, ◌*◌, ◌≤◌, ◌<◌}
-use Rattle.std.proofs.Math.Option.{some}
+use Rattle.std.specs.Prelude.{◌≡◌, List, [], ◌∷◌, ℕ, ◌+◌, ◌*◌, ◌≤◌, ◌<◌, Some}
 use Rattle.words.specs.Words.{byte_at}
 use Rattle.memory.specs.Memory.{flash_address, eeprom_address}
 use Rattle.memory.specs.declared.address.Range.TheVariants.{Flash, Eeprom}
@@ -49,8 +48,8 @@ pub data Row : List ℕ → Command → Type 0 where
 
 -- the form is as the table says
 abbrev pub RowsRead : Type 0
-RowsRead = (d : List ℕ) (k : Command) → Row d k → form d ≡ some k
+RowsRead = (d : List ℕ) (k : Command) → Row d k → form d ≡ Some k
 
 -- "Lengths are exact; unlisted codes and lengths stall.": bytes that have a form stand in the table
 abbrev pub OnlyRows : Type 0
-OnlyRows = (d : List ℕ) (k : Command) → Bytes d → form d ≡ some k → Row d k
+OnlyRows = (d : List ℕ) (k : Command) → Bytes d → form d ≡ Some k → Row d k

@@ -1,10 +1,9 @@
 -- What DNLOAD answers for what becomes of a command.
 -- Assumes nothing.
-use Rattle.std.specs.Prelude.{if◌then◌else◌}
+use Rattle.std.specs.Prelude.{if◌then◌else◌, Option, None, Some}
 use mathlib.Core.Path.{◌≡◌, refl, sym, ap, ◌∙◌, subst}
 use mathlib.Core.Bool.{Bool, true, false}
 use mathlib.Core.List.{List, []}
-use mathlib.Core.Option.{Option, none, some}
 use Prim.Native.Nat.{ℕ}
 use Rattle.config.specs.Level.{level}
 use Rattle.config.specs.declared.config.Config.{Config}
@@ -39,8 +38,8 @@ tests b k false false false x y z = refl
 
 obeys : (b : Board) (o : Option Command) (d : List ℕ) → result_of b (fate_of b o d) ≡ obey_form b o d
 unfolding fate obey
-obeys b none d = refl
-obeys b (some k) d =
+obeys b None d = refl
+obeys b (Some k) d =
     tests b k (forbidden b k) (bad_address k) (bad_length k d) (level_status k (level b.config)) bad_address_status (perform b k d)
 
 -- the memories after a fate are those after its result

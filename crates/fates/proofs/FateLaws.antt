@@ -1,9 +1,9 @@
 -- Each way through `fate`, and that it does not hang on the session.
 -- Assumes nothing.
+use Rattle.std.specs.Prelude.{Option, None, Some}
 use mathlib.Core.Path.{◌≡◌, refl, sym, ap, ◌∙◌}
 use mathlib.Core.Bool.{true, false, and-false}
 use mathlib.Core.List.{List}
-use mathlib.Core.Option.{Option, none, some}
 use Prim.Native.Nat.{ℕ}
 use lib.Dec.{eqb}
 use lib.ListN.{length}
@@ -53,8 +53,8 @@ perform_session s t c f e d ReadHsb = refl
 -- so what becomes of it does not hang on the session
 pub fate_session : (s t : Session) (c : Config) (f e d : List ℕ) (o : Option Command) → fate_of (board s c f e) o d ≡ fate_of (board t c f e) o d
 unfolding fate
-fate_session s t c f e d none = refl
-fate_session s t c f e d (some k) = rw (perform_session s t c f e d k)
+fate_session s t c f e d None = refl
+fate_session s t c f e d (Some k) = rw (perform_session s t c f e d k)
 
 -- the level's status, then the address, at last the length, of a command that was judged
 module _ (c : Config) (k : Command) (x : Fit) (d f e : List ℕ) (status : ℕ) (told : status ≡ level_status k (level c)) where

@@ -1,9 +1,9 @@
 -- The statements of specs/Effects.antt hold, by the shapes of an answer.
 -- Assumes nothing.
+use Rattle.std.specs.Prelude.{Option, None, Some}
 use mathlib.Core.Path.{◌≡◌, refl, sym, ap, ◌∙◌, subst}
 use mathlib.Core.Bool.{Bool, true, false, true≢false}
 use mathlib.Core.List.{List}
-use mathlib.Core.Option.{Option, none, some}
 use Prim.Native.Nat.{ℕ, ◌+◌, ◌-◌, ◌*◌, ◌≤◌, ◌<◌}
 use native.Mathlib.Omega.{arith}
 use lib.Dec.{lit≤}
@@ -103,7 +103,7 @@ never : {A : Type 0} (o : Outcome) (k : ℕ) → is_refused o ≡ false → o �
 never o k f q = absurd (true≢false (ap is_refused (sym q) ∙ f))
 
 -- a command that is done is told as such
-did_it : (b : Board) (k : Command) (d : List ℕ) → (is_refused (perform b k d).outcome ≡ false) × ((perform b k d).done ≡ some k)
+did_it : (b : Board) (k : Command) (d : List ℕ) → (is_refused (perform b k d).outcome ≡ false) × ((perform b k d).done ≡ Some k)
 unfolding perform
 did_it b (Program a) d = (refl, refl)
 did_it b (Display a e) d = (refl, refl)
@@ -127,13 +127,13 @@ refusals_move_nothing b cs n k e = refusal_moves b _ _ _ k e (shape b cs n)
 
 -- ---- what is done
 
-some_same : {k j : Command} → some k ≡ some j → k ≡ j
+some_same : {k j : Command} → Some k ≡ Some j → k ≡ j
 some_same q = cc
 
-none_some : {A : Type 0} {k : Command} → none ≡ some k → A
+none_some : {A : Type 0} {k : Command} → None ≡ Some k → A
 none_some q = let z : ◌≡◌ {A = ℕ} 0 1 = cc in absurd (omega arith)
 
-done_shape : (b : Board) (o : Option Command) (d : List ℕ) (r : Result) (k : Command) → r.done ≡ some k → Shape b o d r → Passed b k o d
+done_shape : (b : Board) (o : Option Command) (d : List ℕ) (r : Result) (k : Command) → r.done ≡ Some k → Shape b o d r → Passed b k o d
 done_shape b o d r k e (refuses j t q) = none_some (sym (ap (λ x. x.done) q) ∙ e)
 done_shape b o d r k e (tells t q) = none_some (sym (ap (λ x. x.done) q) ∙ e)
 done_shape b o d r k e (does j p q) =

@@ -1,11 +1,10 @@
 -- The statements of specs/LevelTwo.antt hold. One record is answered alike by two boards with the same SSB and the same blank bytes, and
 -- at level 2 it either moves nothing or is a full chip erase that is done; runs follow by induction.
 -- Assumes nothing.
-use Rattle.std.specs.Prelude.{if◌then◌else◌}
+use Rattle.std.specs.Prelude.{if◌then◌else◌, Option, None, Some}
 use mathlib.Core.Path.{◌≡◌, refl, sym, ap, ◌∙◌, subst}
 use mathlib.Core.Bool.{Bool, true, false, true≢false}
 use mathlib.Core.List.{List, [], ◌∷◌}
-use mathlib.Core.Option.{Option, none, some}
 use Prim.Native.Nat.{ℕ, zero, suc, ◌+◌, ◌*◌, ◌/◌, ◌%◌, ◌≤◌, ◌<◌}
 use native.Mathlib.Omega.{arith}
 use lib.Dec.{eqb, ltb, lit<, lit≤}
@@ -87,8 +86,8 @@ module _ (c c' : Config) (f f' : List ℕ) (lv : level c ≡ L2) (s : c.ssb ≡ 
 
   obey_same : length f ≡ flash_size → (o : Option Command) (d : List ℕ) → Same (obey_form (board c f) o d) (obey_form (board c' f') o d)
   unfolding obey
-  obey_same h none d = refused_same c c' 17
-  obey_same h (some k) d = same_if (bad_range k (length d)) (refused_same c c' 17) (let_through h k d)
+  obey_same h None d = refused_same c c' 17
+  obey_same h (Some k) d = same_if (bad_range k (length d)) (refused_same c c' 17) (let_through h k d)
 
   answer_to_same : length f ≡ flash_size → (r : Reading) (d : List ℕ) → Same (answer_to (board c f) r d) (answer_to (board c' f') r d)
   answer_to_same h (Taken g) d = obey_same h (form g.kind g.offset d) d
@@ -204,7 +203,7 @@ kept_secret_ever b b' a h vs = ever_same b b' a h vs
 
 -- a blank check of the byte at x, which is FFh or not, done on a board of the configuration c
 one_byte : ℕ → Config → Bool → Result
-one_byte x c t = did (BlankCheck (flash_address x) (flash_address x)) (blank_text (if t then none else some x)) c []
+one_byte x c t = did (BlankCheck (flash_address x) (flash_address x)) (blank_text (if t then None else Some x)) c []
 
 one_byte_same : (x : ℕ) (c : Config) (t : Bool) → Same (one_byte x c t) (one_byte x delivered_config t)
 unfolding one_byte

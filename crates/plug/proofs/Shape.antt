@@ -1,11 +1,10 @@
 -- Every answer has one of three shapes: a numbered refusal; `X` or `P`, which move nothing; or what a command does that passed. This
 -- is the one walk through the order of the refusals: the laws of effects and of level 2 go by its cases.
 -- Assumes nothing.
-use Rattle.std.specs.Prelude.{if◌then◌else◌}
+use Rattle.std.specs.Prelude.{if◌then◌else◌, Option, None, Some}
 use mathlib.Core.Path.{◌≡◌, refl}
 use mathlib.Core.Bool.{Bool, true, false}
 use mathlib.Core.List.{List, [], ◌∷◌}
-use mathlib.Core.Option.{Option, none, some}
 use Prim.Native.Nat.{ℕ, ◌≤◌, zero-le}
 use lib.Dec.{eqb, ltb}
 use lib.ListN.{length}
@@ -26,7 +25,7 @@ use Rattle.plug.specs.Step.{Board, Result, refused, told, perform, obey, obey_fo
 -- a command of the record with the data d that passed the size, the form, the range and the level
 pub record Passed (b : Board) (k : Command) (o : Option Command) (d : List ℕ) : Type 0 where
   pub flash_size_lem : length b.flash ≡ flash_size
-  pub formed : o ≡ some k
+  pub formed : o ≡ Some k
   pub range_right : bad_range k (length d) ≡ false
   pub level_right : allowed k (level b.config) ≡ true
 
@@ -43,7 +42,7 @@ pick true p q = p refl
 pick false p q = q refl
 
 module _ (b : Board) (hf : length b.flash ≡ flash_size) where
-  of_obey : (k : Command) (d : List ℕ) → Shape b (some k) d (obey b k d)
+  of_obey : (k : Command) (d : List ℕ) → Shape b (Some k) d (obey b k d)
   unfolding obey
   of_obey k d =
       pick (bad_range k (length d)) (λ x. refuses 17 refl refl) (λ x.
@@ -52,8 +51,8 @@ module _ (b : Board) (hf : length b.flash ≡ flash_size) where
       (λ y. tells _ refl))
 
   of_form : (o : Option Command) (d : List ℕ) → Shape b o d (obey_form b o d)
-  of_form none d = refuses 17 refl refl
-  of_form (some k) d = of_obey k d
+  of_form None d = refuses 17 refl refl
+  of_form (Some k) d = of_obey k d
 
   -- what the reader answers, by its two tests
   of_tests : (t t' : Bool) (f : Fields) (cs : List ℕ)

@@ -1,6 +1,5 @@
 -- 002's "Answers from Bootloader": their characters. Assumes nothing: these are definitions.
-use Rattle.std.specs.Prelude.{List, [], ◌∷◌, ◌++◌, ℕ, zero, suc, ◌+◌, ◌/◌, ◌%◌, min}
-use Rattle.std.proofs.Math.Option.{Option, none, some}
+use Rattle.std.specs.Prelude.{List, [], ◌∷◌, ◌++◌, ℕ, zero, suc, ◌+◌, ◌/◌, ◌%◌, min, Option, None, Some}
 use Rattle.words.specs.Words.{count, part}
 use Rattle.lines.specs.Text.{ascii, hex_byte, hex_bytes}
 
@@ -28,8 +27,8 @@ hex_address a = hex_bytes (a / 256 ∷ a % 256 ∷ [])
 
 -- ""." & "CR" & "LF" when the blank check is OK", ""First Address wrong" "CR" & "LF" when the blank check is fail"
 abbrev pub blank_text : Option ℕ → List ℕ
-blank_text none = done_text
-blank_text (some x) = hex_address x ++ line_end
+blank_text None = done_text
+blank_text (Some x) = hex_address x ++ line_end
 
 -- ""Address = data " & "CR" & "LF" up to 16 data by line.": the line of the bytes from a to e
 abbrev pub display_line : ℕ → ℕ → List ℕ → List ℕ

@@ -1,7 +1,6 @@
 -- P2 of 02: "Demand 3 is stated again for this crate over its own blank check, its converse where the room takes that check's
 -- answer." Proved in proofs/LevelTwoHolds.antt.
-use Rattle.std.specs.Prelude.{if◌then◌else◌, ◌≡◌, Bool, true, false, List, [], ◌∷◌, ℕ, ◌/◌, ◌%◌, ◌≤◌, ◌<◌, length}
-use Rattle.std.proofs.Math.Option.{Option, none, some}
+use Rattle.std.specs.Prelude.{if◌then◌else◌, ◌≡◌, Bool, true, false, List, [], ◌∷◌, ℕ, ◌/◌, ◌%◌, ◌≤◌, ◌<◌, length, Option, None, Some}
 use Rattle.blank.specs.Blank.{SameBlank}
 use Rattle.config.specs.declared.level.Level.TheVariants.{L2}
 use Rattle.lines.specs.Text.{ascii}
@@ -21,16 +20,16 @@ pub record Alike (b b' : Board) : Type 0 where
 
 -- a full chip erase that is done, told by the command
 abbrev pub is_chip_erase : Option Command → Bool
-is_chip_erase none = false
-is_chip_erase (some (Program a)) = false
-is_chip_erase (some (Display a e)) = false
-is_chip_erase (some (BlankCheck a e)) = false
-is_chip_erase (some (EraseBlock k)) = false
-is_chip_erase (some EraseChip) = true
-is_chip_erase (some (Write s)) = false
-is_chip_erase (some (Read x)) = false
-is_chip_erase (some StartReset) = false
-is_chip_erase (some (StartAt a)) = false
+is_chip_erase None = false
+is_chip_erase (Some (Program a)) = false
+is_chip_erase (Some (Display a e)) = false
+is_chip_erase (Some (BlankCheck a e)) = false
+is_chip_erase (Some (EraseBlock k)) = false
+is_chip_erase (Some EraseChip) = true
+is_chip_erase (Some (Write s)) = false
+is_chip_erase (Some (Read x)) = false
+is_chip_erase (Some StartReset) = false
+is_chip_erase (Some (StartAt a)) = false
 
 -- the records up to and including the first full chip erase that is done
 abbrev pub up_to_erase : Board → List Event → List Event

@@ -1,7 +1,6 @@
 -- What is built of its parts has each of them in its place: a configuration, a board, and the results of a record. Proved in
 -- proofs/NamedHolds.antt.
-use Rattle.std.specs.Prelude.{◌≡◌, List, [], ◌++◌, ℕ, ◌≤◌, ◌<◌, length, drop}
-use Rattle.std.proofs.Math.Option.{none, some}
+use Rattle.std.specs.Prelude.{◌≡◌, List, [], ◌++◌, ℕ, ◌≤◌, ◌<◌, length, drop, None, Some}
 use Rattle.memory.specs.Memory.{page}
 use Rattle.memory.specs.Pages.{Store, store_all}
 use Rattle.memory.specs.Program.{bytes_stores}
@@ -39,12 +38,12 @@ pub record Named : Type 0 where
   pub of_next : (b : Board) (r : Result) → next b r ≡ board r.config (store_all r.stored b.flash)
   pub of_pages : (r : Result) → pages r ≡ length r.stored
   -- "A refusal gives its number, length 0 and 0 pages"; `X`, `P` and a display: characters, and nothing moves
-  pub of_refused : (c : Config) (n : ℕ) → refused c n ≡ record { outcome = Refused n; text = []; config = c; stored = []; done = none }
-  pub of_told : (c : Config) (t : List ℕ) → told c t ≡ record { outcome = Answered; text = t; config = c; stored = []; done = none }
+  pub of_refused : (c : Config) (n : ℕ) → refused c n ≡ record { outcome = Refused n; text = []; config = c; stored = []; done = None }
+  pub of_told : (c : Config) (t : List ℕ) → told c t ≡ record { outcome = Answered; text = t; config = c; stored = []; done = None }
   -- a command that was done, and a start: "No answer is returned by the device."
   pub of_did : (k : Command) (t : List ℕ) (c : Config) (ss : List Store)
-      → did k t c ss ≡ record { outcome = Answered; text = t; config = c; stored = ss; done = some k }
-  pub of_started : (k : Command) (o : Outcome) (c : Config) → started k o c ≡ record { outcome = o; text = []; config = c; stored = []; done = some k }
+      → did k t c ss ≡ record { outcome = Answered; text = t; config = c; stored = ss; done = Some k }
+  pub of_started : (k : Command) (o : Outcome) (c : Config) → started k o c ≡ record { outcome = o; text = []; config = c; stored = []; done = Some k }
   -- a record is answered by what was read of it, on a flash of 65,536 bytes
   pub flash_size_lem : flash_size ≡ 65536
   pub of_answer : (b : Board) (cs : List ℕ) → length b.flash ≡ 65536 → answer b cs ≡ answer_to b (reading cs) (data_read (reading cs) cs)

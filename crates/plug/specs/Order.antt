@@ -1,6 +1,5 @@
 -- P2's order of the refusals and answers, one sentence a line: each is given when none before it is. Proved in proofs/OrderHolds.antt.
-use Rattle.std.specs.Prelude.{◌≡◌, true, false, List, ℕ, ◌≤◌, ◌<◌, length}
-use Rattle.std.proofs.Math.Option.{none, some}
+use Rattle.std.specs.Prelude.{◌≡◌, true, false, List, ℕ, ◌≤◌, ◌<◌, length, None, Some}
 use Rattle.record.specs.Record.{data_of}
 use Rattle.record.specs.Reader.{well_formed, sums_to_zero, fields_of, length_field}
 use Rattle.plug.specs.Config.{level}
@@ -21,7 +20,7 @@ taken_data cs = data_of cs (length_field cs)
 
 -- the record is this command
 abbrev pub Is : List ℕ → Command → Type 0
-Is cs k = form (fields_of cs).kind (fields_of cs).offset (taken_data cs) ≡ some k
+Is cs k = form (fields_of cs).kind (fields_of cs).offset (taken_data cs) ≡ Some k
 
 pub record Order : Type 0 where
   -- "2 when the flash isn't 65,536 bytes"
@@ -32,7 +31,7 @@ pub record Order : Type 0 where
   pub wrong_checksum : (b : Board) (cs : List ℕ) → length b.flash ≡ flash_size → well_formed cs ≡ true → sums_to_zero cs ≡ false
       → answer b cs ≡ told b.config wrong_checksum_text
   -- "then 17 for an unknown type, a backward range or one past FFFFh", at every level
-  pub unknown_type : (b : Board) (cs : List ℕ) → Taken b cs → form (fields_of cs).kind (fields_of cs).offset (taken_data cs) ≡ none
+  pub unknown_type : (b : Board) (cs : List ℕ) → Taken b cs → form (fields_of cs).kind (fields_of cs).offset (taken_data cs) ≡ None
       → answer b cs ≡ refused b.config 17
   pub bad_range_lem : (b : Board) (cs : List ℕ) (k : Command) → Taken b cs → Is cs k → bad_range k (length (taken_data cs)) ≡ true
       → answer b cs ≡ refused b.config 17

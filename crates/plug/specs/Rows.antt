@@ -1,7 +1,6 @@
 -- 002's tables "Requests from Host", row by row: the command of a record by its type and its data. Then that no other record is one.
 -- Proved in proofs/RowsHold.antt.
-use Rattle.std.specs.Prelude.{◌≡◌, false, List, [], ◌∷◌, ℕ, ◌+◌, ◌*◌, ◌<◌, length}
-use Rattle.std.proofs.Math.Option.{none, some}
+use Rattle.std.specs.Prelude.{◌≡◌, false, List, [], ◌∷◌, ℕ, ◌+◌, ◌*◌, ◌<◌, length, None, Some}
 use Rattle.words.specs.Words.{among}
 use Rattle.memory.specs.Memory.{flash_address}
 use Rattle.memory.specs.declared.address.FlashAddress.{FlashAddress}
@@ -11,10 +10,10 @@ use Rattle.plug.specs.Commands.{Block0, Block1, Block2, Block3, form}
 
 -- a record of this type with this data is this command, whatever its load offset; or it is none
 abbrev pub Row : ℕ → List ℕ → Command → Type 0
-Row kind d k = (offset : ℕ) → form kind offset d ≡ some k
+Row kind d k = (offset : ℕ) → form kind offset d ≡ Some k
 
 abbrev pub NoRow : ℕ → List ℕ → Type 0
-NoRow kind d = (offset : ℕ) → form kind offset d ≡ none
+NoRow kind d = (offset : ℕ) → form kind offset d ≡ None
 
 -- an address of two bytes, the high one first
 abbrev pub address : ℕ → ℕ → FlashAddress
@@ -38,7 +37,7 @@ reads = 0x0000 ∷ 0x0001 ∷ 0x0002 ∷ 0x0003 ∷ 0x0700 ∷ 0x0701 ∷ 0x0702
 
 pub record Rows : Type 0 where
   -- "Program Flash | 00h | Start Address": the load offset is the start address
-  pub program_flash_lem : (offset : ℕ) (d : List ℕ) → form 0x00 offset d ≡ some (Program (flash_address offset))
+  pub program_flash_lem : (offset : ℕ) (d : List ℕ) → form 0x00 offset d ≡ Some (Program (flash_address offset))
   -- "04h .. 05h": "Start Address", "End Address", then "00h" for "Read Flash" and "01h" for "Blank check on Flash"
   pub read_flash : (h l i m : ℕ) → Row 0x04 (h ∷ l ∷ i ∷ m ∷ 0x00 ∷ []) (Display (address h l) (address i m))
   pub blank_check : (h l i m : ℕ) → Row 0x04 (h ∷ l ∷ i ∷ m ∷ 0x01 ∷ []) (BlankCheck (address h l) (address i m))

@@ -1,7 +1,6 @@
 -- 002's "Answers from Bootloader": the characters of each answer, and which answer each command gets that is done. Proved in
 -- proofs/SaidHolds.antt.
-use Rattle.std.specs.Prelude.{◌≡◌, List, [], ◌∷◌, ◌++◌, ℕ, suc, ◌+◌, ◌*◌, ◌≤◌, ◌<◌, length, get_or}
-use Rattle.std.proofs.Math.Option.{some}
+use Rattle.std.specs.Prelude.{◌≡◌, List, [], ◌∷◌, ◌++◌, ℕ, suc, ◌+◌, ◌*◌, ◌≤◌, ◌<◌, length, get_or, Some}
 use Rattle.memory.specs.Memory.{flash_address}
 use Rattle.memory.specs.declared.address.FlashAddress.{FlashAddress}
 use Rattle.blank.specs.Blank.{AllBlank}
@@ -30,11 +29,11 @@ pub record Said : Type 0 where
   pub x : wrong_checksum_text ≡ 0x58 ∷ cr_lf
   pub p : security_text ≡ 0x50 ∷ cr_lf
   pub value : value_text 0x3C ≡ 0x33 ∷ 0x43 ∷ 0x2E ∷ cr_lf
-  pub first_wrong : blank_text (some 0x1A2B) ≡ 0x31 ∷ 0x41 ∷ 0x32 ∷ 0x42 ∷ cr_lf
-  pub first_wrong_high : blank_text (some 0xFEDC) ≡ ascii "FEDC" ++ cr_lf
+  pub first_wrong : blank_text (Some 0x1A2B) ≡ 0x31 ∷ 0x41 ∷ 0x32 ∷ 0x42 ∷ cr_lf
+  pub first_wrong_high : blank_text (Some 0xFEDC) ≡ ascii "FEDC" ++ cr_lf
   pub value_digits : (h l : ℕ) → h < 16 → l < 16 → value_text (16 * h + l) ≡ hex_digit h ∷ hex_digit l ∷ 0x2E ∷ cr_lf
   pub first_wrong_digits : (a b c d : ℕ) → a < 16 → b < 16 → c < 16 → d < 16
-      → blank_text (some (4096 * a + 256 * b + 16 * c + d)) ≡ hex_digit a ∷ hex_digit b ∷ hex_digit c ∷ hex_digit d ∷ cr_lf
+      → blank_text (Some (4096 * a + 256 * b + 16 * c + d)) ≡ hex_digit a ∷ hex_digit b ∷ hex_digit c ∷ hex_digit d ∷ cr_lf
   -- ""Address = data " & "CR" & "LF"": of every address and flash, and of the bytes at 0001h and 0002h
   pub line_digits : (a b c d e : ℕ) (f : List ℕ) → a < 16 → b < 16 → c < 16 → d < 16
       → let start = 4096 * a + 256 * b + 16 * c + d in
@@ -56,7 +55,7 @@ pub record Said : Type 0 where
   -- ""." & "CR" & "LF" when the blank check is OK", ""First Address wrong" .. when the blank check is fail"
   pub blank_ok : (b : Board) (a e : FlashAddress) → AllBlank a.0 (suc e.0) b.flash → SaysOn b (BlankCheck a e) (0x2E ∷ cr_lf)
   pub blank_fails : (b : Board) (a e : FlashAddress) (x : ℕ) → a.0 ≤ x → x ≤ e.0 → x < length b.flash → AllBlank a.0 x b.flash
-      → (get_or b.flash x 0 ≡ 0xFF → ⊥) → SaysOn b (BlankCheck a e) (blank_text (some x))
+      → (get_or b.flash x 0 ≡ 0xFF → ⊥) → SaysOn b (BlankCheck a e) (blank_text (Some x))
   -- "The device splits into blocks of 16 bytes": up to 16 bytes are one line, and more are a line of 16 and the display of the rest
   pub one_line : (b : Board) (a e : FlashAddress) → a.0 ≤ e.0 → e.0 < a.0 + 16 → SaysOn b (Display a e) (display_line a.0 e.0 b.flash)
   pub display_answered : (b : Board) (a e : FlashAddress) (d : List ℕ) → (perform b (Display a e) d).outcome ≡ Answered

@@ -1,6 +1,5 @@
 -- One record, and runs of them. Assumes nothing: these are definitions.
-use Rattle.std.specs.Prelude.{if◌then◌else◌, List, [], ◌∷◌, ℕ, eqb, ltb, length, replicate}
-use Rattle.std.proofs.Math.Option.{Option, none, some}
+use Rattle.std.specs.Prelude.{if◌then◌else◌, List, [], ◌∷◌, ℕ, eqb, ltb, length, replicate, Option, None, Some}
 use Rattle.memory.specs.Memory.{page}
 use Rattle.memory.specs.Pages.{Store, store_all}
 use Rattle.memory.specs.Program.{bytes_stores}
@@ -42,19 +41,19 @@ pages r = length r.stored
 
 -- "A refusal gives its number, length 0 and 0 pages; .. memories, configuration and reply stay."
 abbrev pub refused : Config → ℕ → Result
-refused c n = record { outcome = Refused n; text = []; config = c; stored = []; done = none }
+refused c n = record { outcome = Refused n; text = []; config = c; stored = []; done = None }
 
 -- `X` and `P`: an answer, and nothing moves
 abbrev pub told : Config → List ℕ → Result
-told c t = record { outcome = Answered; text = t; config = c; stored = []; done = none }
+told c t = record { outcome = Answered; text = t; config = c; stored = []; done = None }
 
 -- a command that was done: its answer, the configuration after it and its stores
 abbrev pub did : Command → List ℕ → Config → List Store → Result
-did k t c ss = record { outcome = Answered; text = t; config = c; stored = ss; done = some k }
+did k t c ss = record { outcome = Answered; text = t; config = c; stored = ss; done = Some k }
 
 -- "Start the Application": "No answer is returned by the device."
 abbrev pub started : Command → Outcome → Config → Result
-started k o c = record { outcome = o; text = []; config = c; stored = []; done = some k }
+started k o c = record { outcome = o; text = []; config = c; stored = []; done = Some k }
 
 -- what each command does; d is the record's data
 unfoldable pub perform : Board → Command → List ℕ → Result
@@ -76,8 +75,8 @@ obey b k d =
     told b.config security_text
 
 abbrev pub obey_form : Board → Option Command → List ℕ → Result
-obey_form b none d = refused b.config 17
-obey_form b (some k) d = obey b k d
+obey_form b None d = refused b.config 17
+obey_form b (Some k) d = obey b k d
 
 -- "then 17 for a character that is no hex digit or a record of wrong length; then `X` for a wrong checksum"
 abbrev pub answer_to : Board → Reading → List ℕ → Result

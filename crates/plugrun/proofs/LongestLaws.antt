@@ -1,11 +1,10 @@
 -- No answer is longer than a display of all flash: a display ends at an address of two bytes.
 -- Assumes nothing.
-use Rattle.std.specs.Prelude.{if◌then◌else◌}
+use Rattle.std.specs.Prelude.{if◌then◌else◌, Option, None, Some}
 use mathlib.Core.Logic.{⊎_elim}
 use mathlib.Core.Path.{◌≡◌, refl}
 use mathlib.Core.Bool.{Bool, true, false, ◌&&◌}
 use mathlib.Core.List.{List}
-use mathlib.Core.Option.{Option, none, some}
 use Prim.Native.Nat.{ℕ, ◌+◌, ◌≤◌, ◌<◌}
 use native.Mathlib.Omega.{arith}
 use lib.Dec.{eqb}
@@ -37,16 +36,16 @@ use Rattle.plugrun.specs.Turn.{most_answer, AnswersWhole}
 -- ---- where a display ends; 0 for any other command and for none
 
 abbrev display_end : Option Command → ℕ
-display_end none = 0
-display_end (some (Program a)) = 0
-display_end (some (Display a e)) = e.0
-display_end (some (BlankCheck a e)) = 0
-display_end (some (EraseBlock k)) = 0
-display_end (some EraseChip) = 0
-display_end (some (Write s)) = 0
-display_end (some (Read x)) = 0
-display_end (some StartReset) = 0
-display_end (some (StartAt a)) = 0
+display_end None = 0
+display_end (Some (Program a)) = 0
+display_end (Some (Display a e)) = e.0
+display_end (Some (BlankCheck a e)) = 0
+display_end (Some (EraseBlock k)) = 0
+display_end (Some EraseChip) = 0
+display_end (Some (Write s)) = 0
+display_end (Some (Read x)) = 0
+display_end (Some StartReset) = 0
+display_end (Some (StartAt a)) = 0
 
 -- a display that ends at n, or no display
 data Ends (n : ℕ) (o : Option Command) : Type 0 where
@@ -124,11 +123,11 @@ pick true p q = p refl
 pick false p q = q refl
 
 blank_short : (u : Option ℕ) → length (blank_text u) ≤ most_answer
-blank_short none = omega arith
-blank_short (some x) = omega arith
+blank_short None = omega arith
+blank_short (Some x) = omega arith
 
 module _ (b : Board) (size : length b.flash ≡ flash_size) where
-  of_perform : (k : Command) (d : List ℕ) → display_end (some k) < flash_size → Short (perform b k d)
+  of_perform : (k : Command) (d : List ℕ) → display_end (Some k) < flash_size → Short (perform b k d)
   unfolding perform
   of_perform (Program a) d h = record { size = omega arith }
   of_perform (Display a e) d h = record { size = omega (arith, length_display a.0 e.0 b.flash (omega arith)) }
@@ -142,8 +141,8 @@ module _ (b : Board) (size : length b.flash ≡ flash_size) where
 
   of_obey : (o : Option Command) (d : List ℕ) → display_end o < flash_size → Short (obey_form b o d)
   unfolding obey
-  of_obey none d h = record { size = omega arith }
-  of_obey (some k) d h =
+  of_obey None d h = record { size = omega arith }
+  of_obey (Some k) d h =
       pick (bad_range k (length d)) (λ x. record { size = omega arith }) (λ x.
       pick (allowed k (level b.config)) (λ y. of_perform k d h) (λ y. record { size = omega arith }))
 

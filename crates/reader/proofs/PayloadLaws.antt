@@ -1,10 +1,9 @@
 -- What a judgement tells of a payload, and what the reader answers for it.
 -- Assumes nothing.
-use Rattle.std.specs.Prelude.{if◌then◌else◌}
+use Rattle.std.specs.Prelude.{if◌then◌else◌, Option, None, Some}
 use mathlib.Core.Path.{◌≡◌, refl, ap, subst}
 use mathlib.Core.Bool.{Bool, true, false}
 use mathlib.Core.List.{List}
-use mathlib.Core.Option.{Option, none, some}
 use Prim.Native.Nat.{ℕ}
 use lib.ListN.{length}
 use native.Mathlib.Omega.{arith}
@@ -20,12 +19,12 @@ use Rattle.reader.specs.Payload.{reading_of, ReadAsJudged}
 
 -- the judgement of a form
 formed : (o : Option Command) (k : Command) (l : ℕ) → form_of o ≡ F.Is k → Is k (fit k l) ≡ judged o l
-formed none k l q = absurd (let z : ◌≡◌ {A = ℕ} 0 1 = cc in omega arith)
-formed (some j) k l q = let same : j ≡ k = cc in rw same
+formed None k l q = absurd (let z : ◌≡◌ {A = ℕ} 0 1 = cc in omega arith)
+formed (Some j) k l q = let same : j ≡ k = cc in rw same
 
 formless : (o : Option Command) (l : ℕ) → form_of o ≡ F.Unlisted → Unlisted ≡ judged o l
-formless none l q = refl
-formless (some j) l q = absurd (let z : ◌≡◌ {A = ℕ} 0 1 = cc in omega arith)
+formless None l q = refl
+formless (Some j) l q = absurd (let z : ◌≡◌ {A = ℕ} 0 1 = cc in omega arith)
 
 pub listed : (d : List ℕ) (k : Command) (f : Fit) → form_of (form d) ≡ F.Is k → f ≡ fit k (length d) → Is k f ≡ judgement d
 unfolding judgement
@@ -43,8 +42,8 @@ tests k p false true = refl
 tests k p false false = refl
 
 by_form : (o : Option Command) (d : List ℕ) → reading_of (judged o (length d)) ≡ read_form o d
-by_form none d = refl
-by_form (some k) d = tests k (parts_of k d) (bad_address k) (bad_length k d)
+by_form None d = refl
+by_form (Some k) d = tests k (parts_of k d) (bad_address k) (bad_length k d)
 
 pub read_judged : ReadAsJudged
 unfolding judgement read_command
@@ -61,22 +60,22 @@ read_judged = record {
 }
 
 -- what a judgement tells of the form
-is_of : (o : Option Command) (k : Command) (x : Fit) (l : ℕ) → judged o l ≡ Is k x → (o ≡ some k) × (fit k l ≡ x)
-is_of none k x l q = absurd (let z : ◌≡◌ {A = ℕ} 0 1 = cc in omega arith)
-is_of (some j) k x l q =
+is_of : (o : Option Command) (k : Command) (x : Fit) (l : ℕ) → judged o l ≡ Is k x → (o ≡ Some k) × (fit k l ≡ x)
+is_of None k x l q = absurd (let z : ◌≡◌ {A = ℕ} 0 1 = cc in omega arith)
+is_of (Some j) k x l q =
     let same : j ≡ k = cc in
     let told : fit j l ≡ x = cc in
-    (ap some same, rw same at told)
+    (ap Some same, rw same at told)
 
-none_of : (o : Option Command) (l : ℕ) → judged o l ≡ Unlisted → o ≡ none
-none_of none l q = refl
-none_of (some j) l q = absurd (let z : ◌≡◌ {A = ℕ} 0 1 = cc in omega arith)
+none_of : (o : Option Command) (l : ℕ) → judged o l ≡ Unlisted → o ≡ None
+none_of None l q = refl
+none_of (Some j) l q = absurd (let z : ◌≡◌ {A = ℕ} 0 1 = cc in omega arith)
 
-pub judged_is : (d : List ℕ) (k : Command) (x : Fit) → judgement d ≡ Is k x → (form d ≡ some k) × (fit k (length d) ≡ x)
+pub judged_is : (d : List ℕ) (k : Command) (x : Fit) → judgement d ≡ Is k x → (form d ≡ Some k) × (fit k (length d) ≡ x)
 unfolding judgement
 judged_is d k x q = is_of (form d) k x (length d) q
 
-pub judged_unlisted : (d : List ℕ) → judgement d ≡ Unlisted → form d ≡ none
+pub judged_unlisted : (d : List ℕ) → judgement d ≡ Unlisted → form d ≡ None
 unfolding judgement
 judged_unlisted d q = none_of (form d) (length d) q
 

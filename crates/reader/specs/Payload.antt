@@ -1,7 +1,6 @@
 -- A payload judged: "form, .. address .., and for program at last its whole length", and where its parts lie. The level, which 01 has between
 -- form and address, stops a command whatever is said of it here. Assumes nothing: these are definitions and a statement.
-use Rattle.std.specs.Prelude.{if◌then◌else◌, ◌≡◌, true, false, List, ℕ, length}
-use Rattle.std.proofs.Math.Option.{Option, none, some}
+use Rattle.std.specs.Prelude.{if◌then◌else◌, ◌≡◌, true, false, List, ℕ, length, Option, None, Some}
 use Rattle.command.specs.Form.{form}
 use Rattle.command.specs.Address.{bad_address}
 use Rattle.command.specs.Transfer.{transfer_of, wrong_transfer, bad_length}
@@ -25,8 +24,8 @@ abbrev pub fit : Command → ℕ → Fit
 fit k l = if bad_address k then BadAddress else layout (transfer_of k) l
 
 abbrev pub judged : Option Command → ℕ → Judgement
-judged none l = Unlisted
-judged (some k) l = Is k (fit k l)
+judged None l = Unlisted
+judged (Some k) l = Is k (fit k l)
 
 unfoldable pub judgement : List ℕ → Judgement
 judgement d = judged (form d) (length d)
@@ -43,8 +42,8 @@ reading_of Unlisted = R.Stalls
 
 -- the judge's words, case by case; and the reader's answer is that of the judgement
 pub record ReadAsJudged : Type 0 where
-  pub unlisted : (d : List ℕ) → form d ≡ none → judgement d ≡ Unlisted
-  pub listed : (d : List ℕ) (k : Command) → form d ≡ some k → judgement d ≡ Is k (fit k (length d))
+  pub unlisted : (d : List ℕ) → form d ≡ None → judgement d ≡ Unlisted
+  pub listed : (d : List ℕ) (k : Command) → form d ≡ Some k → judgement d ≡ Is k (fit k (length d))
   pub bad_address_lem : (k : Command) (l : ℕ) → bad_address k ≡ true → fit k l ≡ BadAddress
   pub wrong_length_lem : (k : Command) (d : List ℕ) → bad_address k ≡ false → bad_length k d ≡ true → fit k (length d) ≡ WrongLength
   pub fits : (k : Command) (d : List ℕ) → bad_address k ≡ false → bad_length k d ≡ false → fit k (length d) ≡ Fits (parts_of k d)

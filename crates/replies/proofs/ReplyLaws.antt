@@ -1,9 +1,9 @@
 -- How an answer comes into the room: whole, or 9 in its place.
 -- Assumes nothing.
+use Rattle.std.specs.Prelude.{Option, Some}
 use mathlib.Core.Path.{◌≡◌, refl, sym, ◌∙◌, subst}
 use mathlib.Core.Bool.{Bool, true, false, not}
 use mathlib.Core.List.{List, [], ◌∷◌}
-use mathlib.Core.Option.{Option, some}
 use Prim.Native.Nat.{ℕ, ◌+◌, ◌≤◌, ◌<◌, zero-le}
 use native.Mathlib.Nat.{zero-add}
 use lib.Dec.{leb}
@@ -63,7 +63,7 @@ pub value_put : (v : ℕ) (m₁ m₂ : List ℕ) → m₁ ≡ laid 0 (hex_bytes 
 unfolding laid
 value_put v m₁ m₂ p q = q ∙ rw p
 
-pub address_put : (a : ℕ) (m₁ m₂ : List ℕ) → m₁ ≡ laid 0 (hex_address a) (replicate 6 0) → m₂ ≡ laid 4 line_end m₁ → m₂ ≡ blank_text (some a)
+pub address_put : (a : ℕ) (m₁ m₂ : List ℕ) → m₁ ≡ laid 0 (hex_address a) (replicate 6 0) → m₂ ≡ laid 4 line_end m₁ → m₂ ≡ blank_text (Some a)
 unfolding laid
 address_put a m₁ m₂ p q = q ∙ rw p
 

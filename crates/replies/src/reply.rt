@@ -1,6 +1,5 @@
 // Answers: one without characters, and one whose characters are put at the front of the room, or 9 where they don't fit.
-ghost use Rattle.std.specs.Prelude.{◌≡◌, length};
-ghost use Rattle.std.proofs.Math.Option.{some};
+ghost use Rattle.std.specs.Prelude.{◌≡◌, length, Some};
 ghost use Rattle.words.specs.Words.{laid};
 ghost use Rattle.plug.specs.Answers.{done_text, value_text, blank_text};
 ghost use Rattle.plug.specs.Step.{told, in_room};
@@ -80,7 +79,7 @@ pub fn say_value(config: Config, value: u8, room: &mut [u8]) -> Answer
 
 // "First Address wrong" "CR" & "LF".
 pub fn say_address(config: Config, address: FlashAddress, room: &mut [u8]) -> Answer
-    ensures { let said = told config (blank_text (some address.0)) in
+    ensures { let said = told config (blank_text (Some address.0)) in
         Replied (in_room config (length room.old) said) result room.new room.old }
 {
     let high = (address.0 / 256) as u8;

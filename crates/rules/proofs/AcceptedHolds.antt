@@ -1,8 +1,8 @@
 -- What stops a command, in order, and what an accepted one sets.
 -- Assumes nothing.
+use Rattle.std.specs.Prelude.{Option, None, Some}
 use mathlib.Core.Path.{◌≡◌, refl, sym, ap, subst}
 use mathlib.Core.List.{List}
-use mathlib.Core.Option.{Option, none, some}
 use Prim.Native.Nat.{ℕ, ◌<◌}
 use native.Mathlib.Omega.{arith}
 use lib.ListN.{length}
@@ -113,8 +113,8 @@ configured b (Read r) d = refl
 configured b (BlankCheck a e) d = found (used_in a.0 e.0 b.flash)
   where
     found : (x : Option ℕ) → (blank_effect b.config x).config ≡ b.config
-    found none = refl
-    found (some x) = refl
+    found None = refl
+    found (Some x) = refl
 configured b (EraseBlock k) d = refl
 configured b EraseChip d = refl
 configured b (WriteByte i v) d = byte_written i v b.config

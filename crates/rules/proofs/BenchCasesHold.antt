@@ -1,9 +1,9 @@
 -- The table of specs/BenchCases.antt holds.
 -- Assumes nothing.
+use Rattle.std.specs.Prelude.{Some}
 use mathlib.Core.Path.{◌≡◌, refl, sym, ap, ◌∙◌, subst}
 use mathlib.Core.Bool.{true, false}
 use mathlib.Core.List.{List, [], ◌∷◌, ◌++◌, append_assoc}
-use mathlib.Core.Option.{some}
 use Prim.Native.Nat.{ℕ, ◌+◌, ◌*◌, ◌/◌, ◌%◌, ◌≤◌, ◌<◌}
 use native.Mathlib.Nat.{le_antisymm}
 use native.Mathlib.Omega.{arith}
@@ -98,7 +98,7 @@ module _ (a e : ℕ) (filler pad new suffix : List ℕ) (hf : length filler ≡ 
       ∙ ap (take (count a e)) (drop_at front (new ++ suffix) (body_place (padding a)) length_front)
       ∙ take_at new suffix (count a e) hn
 
-  transfer_form : form (transfer a e filler pad new suffix) ≡ some (ProgramFlash (flash_address a) (flash_address e))
+  transfer_form : form (transfer a e filler pad new suffix) ≡ Some (ProgramFlash (flash_address a) (flash_address e))
   unfolding form
   transfer_form =
       let six : 6 ≤ length (transfer a e filler pad new suffix) = omega (arith, ht) in
@@ -148,8 +148,8 @@ case_9 = record {
   finds = λ b r f u v w.
       let c : Config = b.config in
       let report : Session = session 3 0x05 (BlankReport (flash_address 0x1234)) 0 in
-      let found : used_in 0 last_flash b.flash ≡ some 0x1234 = used_in_whole b.flash last_flash 0x1234 r.flash_size_lem (lit≤ tt) f.before f.there in
-      let e1 : step b (check_all u) ≡ accept (BlankCheck (flash_address 0) (flash_address last_flash)) (blank_effect c (some 0x1234)) =
+      let found : used_in 0 last_flash b.flash ≡ Some 0x1234 = used_in_whole b.flash last_flash 0x1234 r.flash_size_lem (lit≤ tt) f.before f.there in
+      let e1 : step b (check_all u) ≡ accept (BlankCheck (flash_address 0) (flash_address last_flash)) (blank_effect c (Some 0x1234)) =
       commanded r u (0x03 ∷ 0x01 ∷ 0x00 ∷ 0x00 ∷ 0x7F ∷ 0xFF ∷ []) (lit< tt) (lit≤ tt)
       ∙ ap (λ o. accept (BlankCheck (flash_address 0) (flash_address last_flash)) (blank_effect c o)) found in
       let e2 : step (board report c b.flash b.eeprom) (ask_status v) ≡ get_status (board report c b.flash b.eeprom) =

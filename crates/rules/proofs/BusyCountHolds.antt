@@ -1,12 +1,11 @@
 -- The statements of specs/Busy.antt on the busy count hold: what becomes of it, and where it stands. Each goes through the rules once, a test
 -- at a time.
 -- Assumes nothing.
-use Rattle.std.specs.Prelude.{if◌then◌else◌}
+use Rattle.std.specs.Prelude.{if◌then◌else◌, Option, None, Some}
 use mathlib.Core.Logic.{◌⊎◌, inl, inr}
 use mathlib.Core.Path.{◌≡◌, refl, sym, ap, ◌∙◌, subst}
 use mathlib.Core.Bool.{Bool, true, false, ◌||◌, ◌&&◌, and-false}
 use mathlib.Core.List.{List, []}
-use mathlib.Core.Option.{Option, none, some}
 use Prim.Native.Nat.{ℕ}
 use native.Mathlib.Omega.{arith}
 use lib.Dec.{eqb, ltb}
@@ -69,8 +68,8 @@ module _ (b : Board) (d : List ℕ) (n : ℕ) where
 
   counted_form : (o : Option Command) → Sent (obey_form b o d)
   unfolding obey
-  counted_form none = stalled
-  counted_form (some k) =
+  counted_form None = stalled
+  counted_form (Some k) =
       through Sent (forbidden b k) (counted_status (level_status k (level b.config))) (through Sent (bad_address k) (counted_status bad_address_status)
       (through Sent (bad_length k d) stalled (counted_accept k (perform b k d))))
 
@@ -150,7 +149,7 @@ own_accept b k d = either (alone b k d)
     either (inr p) = inr (refl, p)
 
 -- where no page was waited for, none is unless a command was accepted
-none_kept : (s : Session) (q : Request) (o : Outcome) (n : ℕ) → s.busy ≡ 0 → count_after s q o none n ≡ 0
+none_kept : (s : Session) (q : Request) (o : Outcome) (n : ℕ) → s.busy ≡ 0 → count_after s q o None n ≡ 0
 none_kept s q Done n z = go (clears s.state q)
   where
     go : (t : Bool) → (if t then 0 else s.busy) ≡ 0

@@ -1,10 +1,10 @@
 -- The statements of specs/Effects.antt hold.
 -- Assumes nothing.
+use Rattle.std.specs.Prelude.{Option, None, Some}
 use mathlib.Core.Logic.{◌⊎◌, inl, inr}
 use mathlib.Core.Path.{◌≡◌, refl, sym, ap, ◌∙◌, subst}
 use mathlib.Core.Bool.{Bool, true, false, not, false≢true, true≢false}
 use mathlib.Core.List.{List, [], ◌∷◌}
-use mathlib.Core.Option.{Option, none, some}
 use Prim.Native.Nat.{ℕ, ◌≤◌, ◌<◌}
 use native.Mathlib.Omega.{arith}
 use lib.Dec.{eqb, ltb}
@@ -51,12 +51,12 @@ use Rattle.rules.proofs.Ready.{commanded, not_commanded, state_of}
 use Rattle.rules.proofs.Shape.{Passed, Shape, refused, still, did, shape, is_refused, accepted_did}
 
 -- an answer that changes neither memory nor configuration
-leaves_still : (b : Board) (d : List ℕ) (r : Result) → r.stored ≡ [] → r.patched ≡ [] → r.config ≡ b.config → r.accepted ≡ none → Leaves b d r
+leaves_still : (b : Board) (d : List ℕ) (r : Result) → r.stored ≡ [] → r.patched ≡ [] → r.config ≡ b.config → r.accepted ≡ None → Leaves b d r
 leaves_still b d r s p c a = record { flash = rw (a, s); eeprom = rw (a, p); config = rw a c; page_count_lem = rw (a, s) }
 
 leaves_blank : (b : Board) (a e : _) (d : List ℕ) (o : Option ℕ) → Leaves b d (accept (BlankCheck a e) (blank_effect b.config o))
-leaves_blank b a e d none = record { flash = refl; eeprom = refl; config = refl; page_count_lem = refl }
-leaves_blank b a e d (some x) = record { flash = refl; eeprom = refl; config = refl; page_count_lem = refl }
+leaves_blank b a e d None = record { flash = refl; eeprom = refl; config = refl; page_count_lem = refl }
+leaves_blank b a e d (Some x) = record { flash = refl; eeprom = refl; config = refl; page_count_lem = refl }
 
 leaves_flash : (b : Board) (a e : FlashAddress) (d : List ℕ) → Passed b (ProgramFlash a e) d
     → Leaves b d (accept (ProgramFlash a e) (perform b (ProgramFlash a e) d))
@@ -84,7 +84,7 @@ leaves_eeprom b a e d p =
       page_count_lem = refl;
     }
 
-pages_block : (k : Block) (f : List ℕ) → PagesOf (some (EraseBlock k)) (length (block_stores k f))
+pages_block : (k : Block) (f : List ℕ) → PagesOf (Some (EraseBlock k)) (length (block_stores k f))
 pages_block Low f = length_block_stores Low f
 pages_block Middle f = length_block_stores Middle f
 pages_block High f = length_block_stores High f
@@ -169,7 +169,7 @@ accepted_always b setup d n k c q a =
 
 -- an answer accepts a command, or state 10 is left
 abbrev Said : Result → Type 0
-Said r = r.accepted ≡ none → r.session.state ≡ 10
+Said r = r.accepted ≡ None → r.session.state ≡ 10
 
 said_stall : (b : Board) → Said (stall b)
 unfolding stall
@@ -177,8 +177,8 @@ said_stall b q = refl
 
 said : (b : Board) (d : List ℕ) (o : Option Command) → Said (obey_form b o d)
 unfolding obey
-said b d none = said_stall b
-said b d (some k) =
+said b d None = said_stall b
+said b d (Some k) =
     through Said (forbidden b k) (λ q. refl) (through Said (bad_address k) (λ q. refl) (through Said (bad_length k d) (said_stall b)
     (λ q. absurd (let n : ◌≡◌ {A = ℕ} 0 1 = cc in omega arith))))
 
@@ -261,8 +261,8 @@ answered b k d l false false false f a e s v = (a, e)
 read_form_lem : (b : Board) (d : List ℕ) (o : Option Command) → form d ≡ o → level b.config ≡ L0
     → ((obey_form b o d).outcome ≡ Stall → ⊥) → ((obey_form b o d).session.status ≡ 0x08 → ⊥) → (k : Command) × (read_command d ≡ Taken k (parts_of k d))
 unfolding stall
-read_form_lem b d none f l s v = absurd (s refl)
-read_form_lem b d (some k) f l s v =
+read_form_lem b d None f l s v = absurd (s refl)
+read_form_lem b d (Some k) f l s v =
     let p = answered b k d l (forbidden b k) (bad_address k) (bad_length k d) refl refl refl s v in
     (k, taken d k (record { formed = f; address_right = p.0; length_right = p.1 }))
 

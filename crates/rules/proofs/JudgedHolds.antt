@@ -1,10 +1,9 @@
 -- The statement of specs/Judged.antt holds: form, level, address and length ask the same of both transfers.
 -- Assumes nothing.
-use Rattle.std.specs.Prelude.{if◌then◌else◌}
+use Rattle.std.specs.Prelude.{if◌then◌else◌, None, Some}
 use mathlib.Core.Path.{◌≡◌, refl}
 use mathlib.Core.Bool.{Bool, true, false}
 use mathlib.Core.List.{List}
-use mathlib.Core.Option.{none, some}
 use Prim.Native.Nat.{ℕ, ◌<◌}
 use native.Mathlib.Omega.{arith}
 use lib.Dec.{leb}
@@ -57,8 +56,8 @@ module _ (b : Board) (rest : List ℕ) (a e : ℕ) (h : e < eeprom_size) where
       (accept to_flash (perform b to_flash (transfer_with 0x00 rest))) (accept to_eeprom (perform b to_eeprom (transfer_with 0x01 rest)))
       (record { outcome = refl; state = refl; status = refl; pending = refl }))
 
-  form_alike : (t : Bool) → SameVerdict (obey_form b (if t then some to_flash else none) (transfer_with 0x00 rest))
-      (obey_form b (if t then some to_eeprom else none) (transfer_with 0x01 rest))
+  form_alike : (t : Bool) → SameVerdict (obey_form b (if t then Some to_flash else None) (transfer_with 0x00 rest))
+      (obey_form b (if t then Some to_eeprom else None) (transfer_with 0x01 rest))
   form_alike true = obey_alike
   form_alike false = same (stall b)
 

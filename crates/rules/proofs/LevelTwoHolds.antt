@@ -1,11 +1,10 @@
 -- The statements of specs/LevelTwo.antt hold. One request is answered alike by two boards with the same blank bytes, as data, and
 -- at level 2 it either moves no memory and stays at level 2, or is an accepted full chip erase; runs follow by induction.
 -- Assumes nothing.
-use Rattle.std.specs.Prelude.{if◌then◌else◌}
+use Rattle.std.specs.Prelude.{if◌then◌else◌, Option, None, Some}
 use mathlib.Core.Path.{◌≡◌, refl, sym, ap, ◌∙◌, subst}
 use mathlib.Core.Bool.{Bool, true, false, and-false}
 use mathlib.Core.List.{List, [], ◌∷◌}
-use mathlib.Core.Option.{Option, none, some}
 use Prim.Native.Nat.{ℕ, ◌+◌, ◌*◌, ◌/◌, ◌%◌, ◌<◌}
 use native.Mathlib.Omega.{arith}
 use lib.Dec.{lit<, lit≤, eqb}
@@ -72,8 +71,8 @@ module _ (s : Session) (c : Config) (f f' e e' : List ℕ) (lv : level c ≡ L2)
   stall_same = refl
 
   obey_form_same : (o : Option Command) (d : List ℕ) → obey_form (board s c f e) o d ≡ obey_form (board s c f' e') o d
-  obey_form_same none d = stall_same
-  obey_form_same (some k) d = obey_same k d
+  obey_form_same None d = stall_same
+  obey_form_same (Some k) d = obey_same k d
 
   dnload_same : (n : ℕ) (d : List ℕ) → dnload (board s c f e) n d ≡ dnload (board s c f' e') n d
   unfolding dnload end_download end_plain stall
@@ -107,8 +106,8 @@ data Kept (f : List ℕ) (r : Result) : Type 0 where
 
 kept_blank : (b : Board) (a z : FlashAddress) → level b.config ≡ L2 → (o : Option ℕ)
     → Kept b.flash (accept (BlankCheck a z) (blank_effect b.config o))
-kept_blank b a z lv none = quiet refl refl lv refl
-kept_blank b a z lv (some x) = quiet refl refl lv refl
+kept_blank b a z lv None = quiet refl refl lv refl
+kept_blank b a z lv (Some x) = quiet refl refl lv refl
 
 -- no other configuration byte than SSB sets the level, and SSB's write does not pass
 kept_byte : (b : Board) → level b.config ≡ L2 → (i v : ℕ) (d : List ℕ) → Passed b (WriteByte i v) d → (t : Bool) → eqb i ssb_index ≡ t
@@ -219,21 +218,21 @@ kept_secret_ever b b' a q vs =
 
 -- ---- of which boards and runs this speaks
 
-not_erase : (o : Option Command) → (o ≡ some EraseChip → ⊥) → is_chip_erase o ≡ false
-not_erase none h = refl
-not_erase (some (ProgramFlash a e)) h = refl
-not_erase (some (ProgramEeprom a e)) h = refl
-not_erase (some (Read r)) h = refl
-not_erase (some (BlankCheck a e)) h = refl
-not_erase (some (EraseBlock k)) h = refl
-not_erase (some EraseChip) h = absurd (h refl)
-not_erase (some (WriteByte i v)) h = refl
-not_erase (some (WriteHsb v)) h = refl
-not_erase (some StartReset) h = refl
-not_erase (some (StartAt a)) h = refl
-not_erase (some ReadVersion) h = refl
-not_erase (some (ReadByte i)) h = refl
-not_erase (some ReadHsb) h = refl
+not_erase : (o : Option Command) → (o ≡ Some EraseChip → ⊥) → is_chip_erase o ≡ false
+not_erase None h = refl
+not_erase (Some (ProgramFlash a e)) h = refl
+not_erase (Some (ProgramEeprom a e)) h = refl
+not_erase (Some (Read r)) h = refl
+not_erase (Some (BlankCheck a e)) h = refl
+not_erase (Some (EraseBlock k)) h = refl
+not_erase (Some EraseChip) h = absurd (h refl)
+not_erase (Some (WriteByte i v)) h = refl
+not_erase (Some (WriteHsb v)) h = refl
+not_erase (Some StartReset) h = refl
+not_erase (Some (StartAt a)) h = refl
+not_erase (Some ReadVersion) h = refl
+not_erase (Some (ReadByte i)) h = refl
+not_erase (Some ReadHsb) h = refl
 
 to_the_end : (b : Board) (vs : List Event) → Unerased b vs → up_to_erase b vs ≡ vs
 to_the_end b [] h = refl
@@ -278,7 +277,7 @@ module _ (s : Session) (c : Config) (f e : List ℕ) (hf : length f ≡ flash_si
   check = 0x03 ∷ 0x01 ∷ x / 256 ∷ x % 256 ∷ x / 256 ∷ x % 256 ∷ []
 
   settled : (t : Bool)
-      → next (board idle c f e) (accept (BlankCheck (flash_address x) (flash_address x)) (blank_effect c (if t then none else some x)))
+      → next (board idle c f e) (accept (BlankCheck (flash_address x) (flash_address x)) (blank_effect c (if t then None else Some x)))
       ≡ board (checked t) c f e
   unfolding checked
   settled true = refl

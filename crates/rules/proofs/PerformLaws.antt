@@ -1,9 +1,9 @@
 -- What the board's operations do to memories of their sizes is what `perform` says.
 -- Assumes nothing.
+use Rattle.std.specs.Prelude.{Option, None, Some}
 use mathlib.Core.Path.{◌≡◌, refl, sym, ap, ◌∙◌}
 use mathlib.Core.Bool.{false}
 use mathlib.Core.List.{List, []}
-use mathlib.Core.Option.{Option, none, some}
 use Prim.Native.Nat.{ℕ}
 use native.Mathlib.Omega.{arith}
 use lib.ListN.{length}
@@ -36,12 +36,12 @@ use Rattle.rules.specs.Answered.{Answered, Sizes, Acceptable, accepted_answer}
 
 -- a blank check stores nothing
 pub blank_stored : (c : Config) (o : Option ℕ) → (blank_effect c o).stored ≡ []
-blank_stored c none = refl
-blank_stored c (some x) = refl
+blank_stored c None = refl
+blank_stored c (Some x) = refl
 
 pub blank_patched : (c : Config) (o : Option ℕ) → (blank_effect c o).patched ≡ []
-blank_patched c none = refl
-blank_patched c (some x) = refl
+blank_patched c None = refl
+blank_patched c (Some x) = refl
 
 -- the erases of a flash of its size
 block_erase_sized : (k : Block) (f : List ℕ) → length f ≡ flash_size → block_erase k f ≡ block_stores k f

@@ -1,11 +1,10 @@
 -- Every answer has one of three shapes: a refusal; a reply that changes neither memory nor configuration; or what an accepted
 -- command does. This is the one walk through the rules: the laws of effects and of level 2 go by its cases.
 -- Assumes nothing.
-use Rattle.std.specs.Prelude.{if◌then◌else◌}
+use Rattle.std.specs.Prelude.{if◌then◌else◌, Option, None, Some}
 use mathlib.Core.Path.{◌≡◌, refl, sym, ap, ◌∙◌, subst}
 use mathlib.Core.Bool.{Bool, true, false, ◌&&◌}
 use mathlib.Core.List.{List, []}
-use mathlib.Core.Option.{Option, none, some}
 use Prim.Native.Nat.{ℕ}
 use native.Mathlib.Omega.{arith}
 use lib.Dec.{eqb, ltb}
@@ -31,7 +30,7 @@ use Rattle.rules.proofs.StepLaws.{unrefused}
 
 -- a command that passed the sizes, the form, the level, the address and the length
 pub record Passed (b : Board) (k : Command) (d : List ℕ) : Type 0 where
-  pub formed : form d ≡ some k
+  pub formed : form d ≡ Some k
   pub flash_size_lem : length b.flash ≡ flash_size
   pub eeprom_size_lem : length b.eeprom ≡ eeprom_size
   pub level_right : level_status k (level b.config) ≡ 0x00
@@ -68,7 +67,7 @@ module _ (b : Board) (number : ℕ) (d : List ℕ) (hf : length b.flash ≡ flas
   unfolding stall
   of_stall = still _ _ _ refl refl
 
-  of_obey : (k : Command) → form d ≡ some k → Shape b number d (obey b k d)
+  of_obey : (k : Command) → form d ≡ Some k → Shape b number d (obey b k d)
   unfolding obey
   of_obey k f =
       pick (forbidden b k) (λ x. still _ _ _ refl refl) (λ x.
@@ -84,8 +83,8 @@ module _ (b : Board) (number : ℕ) (d : List ℕ) (hf : length b.flash ≡ flas
       }) refl)))
 
   of_form : (o : Option Command) → form d ≡ o → Shape b number d (obey_form b o d)
-  of_form none f = of_stall
-  of_form (some k) f = of_obey k f
+  of_form None f = of_stall
+  of_form (Some k) f = of_obey k f
 
   of_end_download : Shape b number d (end_download b)
   unfolding end_download end_plain
@@ -121,17 +120,17 @@ pub record Did (b : Board) (d : List ℕ) (k : Command) (r : Result) : Type 0 wh
   pub passed : Passed b k d
   pub answer : r ≡ accept k (perform b k d)
 
-accepted_by : (b : Board) (number : ℕ) (d : List ℕ) (k : Command) (r : Result) → Shape b number d r → r.accepted ≡ some k → Did b d k r
+accepted_by : (b : Board) (number : ℕ) (d : List ℕ) (k : Command) (r : Result) → Shape b number d r → r.accepted ≡ Some k → Did b d k r
 accepted_by b number d k r (refused q) e =
-    let z : none ≡ some k = sym (ap (λ x. x.accepted) q) ∙ e in
+    let z : None ≡ Some k = sym (ap (λ x. x.accepted) q) ∙ e in
     absurd (let n : ◌≡◌ {A = ℕ} 0 1 = cc in omega arith)
 accepted_by b number d k r (still o bs s t q) e =
-    let z : none ≡ some k = sym (ap (λ x. x.accepted) q) ∙ e in
+    let z : None ≡ Some k = sym (ap (λ x. x.accepted) q) ∙ e in
     absurd (let n : ◌≡◌ {A = ℕ} 0 1 = cc in omega arith)
 accepted_by b number d k r (did c p q) e =
-    let z : some c ≡ some k = sym (ap (λ x. x.accepted) q) ∙ e in
+    let z : Some c ≡ Some k = sym (ap (λ x. x.accepted) q) ∙ e in
     let same : c ≡ k = cc in
     subst (λ y. Did b d y r) same (record { passed = p; answer = q })
 
-pub accepted_did : (b : Board) (setup d : List ℕ) (n : ℕ) (k : Command) → (ask b setup d n).accepted ≡ some k → Did b d k (ask b setup d n)
+pub accepted_did : (b : Board) (setup d : List ℕ) (n : ℕ) (k : Command) → (ask b setup d n).accepted ≡ Some k → Did b d k (ask b setup d n)
 accepted_did b setup d n k = accepted_by b (refusal b setup d n) d k (ask b setup d n) (shape b setup d n)

@@ -1,10 +1,9 @@
 -- What the proofs of one request share: what holds of a request that is not refused, and what each request leaves alone.
 -- Assumes nothing.
-use Rattle.std.specs.Prelude.{if◌then◌else◌}
+use Rattle.std.specs.Prelude.{if◌then◌else◌, Option, None, Some}
 use mathlib.Core.Path.{◌≡◌, refl, sym, ap, ◌∙◌}
 use mathlib.Core.Bool.{Bool, true, false, not, ◌||◌, ◌&&◌}
 use mathlib.Core.List.{List, []}
-use mathlib.Core.Option.{Option, none, some}
 use Prim.Native.Nat.{ℕ, ◌≤◌}
 use native.Mathlib.Omega.{arith}
 use lib.Dec.{eqb, ltb}
@@ -120,8 +119,8 @@ module _ (b : Board) where
       through silent (forbidden b k) refl (through silent (bad_address k) refl (through silent (bad_length k d) silent_stall refl))
 
   silent_form : (o : Option Command) (d : List ℕ) → silent (obey_form b o d)
-  silent_form none d = silent_stall
-  silent_form (some k) d = silent_obey k d
+  silent_form None d = silent_stall
+  silent_form (Some k) d = silent_obey k d
 
   silent_dnload : (n : ℕ) (d : List ℕ) → silent (dnload b n d)
   unfolding dnload end_download end_plain

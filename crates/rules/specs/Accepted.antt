@@ -1,7 +1,6 @@
 -- A command in DNLOAD data, a sentence each: what stops it, in 01's order, and what it sets where nothing does. For every board and every
 -- command. Proved in proofs/AcceptedHolds.antt.
-use Rattle.std.specs.Prelude.{◌≡◌, true, false, List, [], ℕ, ◌+◌, ◌*◌, ◌≤◌, ◌<◌, get_or}
-use Rattle.std.proofs.Math.Option.{none, some}
+use Rattle.std.specs.Prelude.{◌≡◌, true, false, List, [], ℕ, ◌+◌, ◌*◌, ◌≤◌, ◌<◌, get_or, None, Some}
 use Rattle.memory.specs.Memory.{flash_address}
 use Rattle.config.specs.Bytes.{config}
 use Rattle.config.specs.Level.{level}
@@ -28,11 +27,11 @@ status_set b status = reply b.config Done [] (session 10 status Nothing b.sessio
 
 -- "Order: form, level, address (.. 08h), and for program at last its whole length."; r the answer to the data d
 pub record Order (b : Board) (d : List ℕ) (r : Result) : Type 0 where
-  pub unlisted : form d ≡ none → Stalls b r
-  pub forbidden : (k : Command) (status : ℕ) → form d ≡ some k → level_status k (level b.config) ≡ status → (status ≡ 0x00 → ⊥) → r ≡ status_set b status
-  pub bad_address_lem : (k : Command) → form d ≡ some k → level_status k (level b.config) ≡ 0x00 → (AddressRight k → ⊥) → r ≡ status_set b 0x08
-  pub bad_length_lem : (k : Command) → form d ≡ some k → level_status k (level b.config) ≡ 0x00 → AddressRight k → bad_length k d ≡ true → Stalls b r
-  pub accepted : (k : Command) → form d ≡ some k → level_status k (level b.config) ≡ 0x00 → AddressRight k → bad_length k d ≡ false → r.accepted ≡ some k
+  pub unlisted : form d ≡ None → Stalls b r
+  pub forbidden : (k : Command) (status : ℕ) → form d ≡ Some k → level_status k (level b.config) ≡ status → (status ≡ 0x00 → ⊥) → r ≡ status_set b status
+  pub bad_address_lem : (k : Command) → form d ≡ Some k → level_status k (level b.config) ≡ 0x00 → (AddressRight k → ⊥) → r ≡ status_set b 0x08
+  pub bad_length_lem : (k : Command) → form d ≡ Some k → level_status k (level b.config) ≡ 0x00 → AddressRight k → bad_length k d ≡ true → Stalls b r
+  pub accepted : (k : Command) → form d ≡ Some k → level_status k (level b.config) ≡ 0x00 → AddressRight k → bad_length k d ≡ false → r.accepted ≡ Some k
 
 abbrev pub CommandOrder : Type 0
 CommandOrder = (b : Board) (setup d : List ℕ) (n : ℕ) → Commands b setup d n → Order b d (ask b setup d n)
@@ -123,4 +122,4 @@ pub record Accepts (b : Board) (k : Command) (r : Result) : Type 0 where
   pub configures : Configures k b.config r.config
 
 abbrev pub AcceptedSets : Type 0
-AcceptedSets = (b : Board) (setup d : List ℕ) (n : ℕ) (k : Command) → (ask b setup d n).accepted ≡ some k → Accepts b k (ask b setup d n)
+AcceptedSets = (b : Board) (setup d : List ℕ) (n : ℕ) (k : Command) → (ask b setup d n).accepted ≡ Some k → Accepts b k (ask b setup d n)

@@ -1,6 +1,5 @@
 -- A result as the code gives it: the answer, and each lent memory after it. Assumes nothing: these are definitions.
-use Rattle.std.specs.Prelude.{if◌then◌else◌, ◌≡◌, false, List, [], ℕ, ◌+◌, ◌-◌, ◌≤◌, ◌<◌, length}
-use Rattle.std.proofs.Math.Option.{some}
+use Rattle.std.specs.Prelude.{if◌then◌else◌, ◌≡◌, false, List, [], ℕ, ◌+◌, ◌-◌, ◌≤◌, ◌<◌, length, Some}
 use Rattle.config.specs.Level.{level}
 use Rattle.memory.specs.Memory.{flash_size, eeprom_size, flash_address, eeprom_address, range_start, range_end, memory_size}
 use Rattle.memory.specs.declared.address.Range.{Range}
@@ -51,12 +50,12 @@ pub record Sizes (f e : List ℕ) : Type 0 where
 -- a command whose form is right
 pub record Formed (k : Command) (d f e : List ℕ) : Type 0 where
   pub sizes : Sizes f e
-  pub formed : form d ≡ some k
+  pub formed : form d ≡ Some k
 
 -- a command of data d that nothing stops but the level
 pub record Acceptable (k : Command) (d f e : List ℕ) : Type 0 where
   pub sizes : Sizes f e
-  pub formed : form d ≡ some k
+  pub formed : form d ≡ Some k
   pub address_right : bad_address k ≡ false
   pub length_right : bad_length k d ≡ false
 

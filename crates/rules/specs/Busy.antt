@@ -1,7 +1,6 @@
 -- P5 of 02, "Busy is busy", said of every board and every request: what becomes of the busy page count, which proofs/BusyCountHolds.antt
 -- proves; then what GETSTATUS tells, what works in state 4, and which counts are admitted, proved in proofs/BusyHolds.antt.
-use Rattle.std.specs.Prelude.{if◌then◌else◌, ◌⊎◌, ◌≡◌, Bool, true, false, List, [], ◌∷◌, ℕ, ◌+◌, ◌*◌, ◌≤◌, ◌<◌, eqb}
-use Rattle.std.proofs.Math.Option.{Option, none, some}
+use Rattle.std.specs.Prelude.{if◌then◌else◌, ◌⊎◌, ◌≡◌, Bool, true, false, List, [], ◌∷◌, ℕ, ◌+◌, ◌*◌, ◌≤◌, ◌<◌, eqb, Option, None, Some}
 use Rattle.words.specs.Words.{among}
 use Rattle.memory.specs.declared.address.FlashAddress.{FlashAddress}
 use Rattle.command.specs.declared.command.Command.{Command}
@@ -27,8 +26,8 @@ clears state Other = false
 -- the count after a request to a session, by the outcome, the command that was accepted and the page count: "An accepted command, a blank
 -- check that gives 05h too, sets it to its page count."; what is not listed keeps it
 abbrev pub count_after : Session → Request → Outcome → Option Command → ℕ → ℕ
-count_after s q Done (some k) n = n
-count_after s q Done none n = if clears s.state q then 0 else s.busy
+count_after s q Done (Some k) n = n
+count_after s q Done None n = if clears s.state q then 0 else s.busy
 count_after s q Stall k n = 0
 count_after s q (Started j a) k n = s.busy
 count_after s q (Refused m) k n = s.busy

@@ -1,6 +1,5 @@
 -- What the board does with a command. Assumes nothing: these are definitions.
-use Rattle.std.specs.Prelude.{if◌then◌else◌, Bool, not, List, [], ◌∷◌, ℕ, eqb, length}
-use Rattle.std.proofs.Math.Option.{Option, none, some}
+use Rattle.std.specs.Prelude.{if◌then◌else◌, Bool, not, List, [], ◌∷◌, ℕ, eqb, length, Option, None, Some}
 use Rattle.memory.specs.Memory.{flash_address}
 use Rattle.memory.specs.Pages.{Store, program_stores, block_stores, chip_stores}
 use Rattle.blank.specs.Blank.{used_in, used_status}
@@ -67,8 +66,8 @@ finds c u p = record { status = used_status u; pending = p; config = c; stored =
 
 -- "A blank check that meets a byte not FFh sets 05h with state 3 and the first such address pending."
 abbrev pub blank_effect : Config → Option ℕ → Effect
-blank_effect c none = finds c Nowhere Nothing
-blank_effect c (some x) = finds c (At (flash_address x)) (BlankReport (flash_address x))
+blank_effect c None = finds c Nowhere Nothing
+blank_effect c (Some x) = finds c (At (flash_address x)) (BlankReport (flash_address x))
 
 -- each row of the table; d the whole data
 unfoldable pub perform : Board → Command → List ℕ → Effect
@@ -96,7 +95,7 @@ accept k x = record {
   config = x.config;
   stored = x.stored;
   patched = x.patched;
-  accepted = some k;
+  accepted = Some k;
 }
 
 -- ---- the order
@@ -114,5 +113,5 @@ obey b k d =
     accept k (perform b k d)
 
 abbrev pub obey_form : Board → Option Command → List ℕ → Result
-obey_form b none d = stall b
-obey_form b (some k) d = obey b k d
+obey_form b None d = stall b
+obey_form b (Some k) d = obey b k d

@@ -1,7 +1,6 @@
 -- What a request leaves on the board, said by the command that was accepted: for every board and every request.
 -- The statements are proved in proofs/EffectsHold.antt.
-use Rattle.std.specs.Prelude.{◌≡◌, true, List, [], ◌∷◌, ℕ, ◌≤◌, ◌<◌, length}
-use Rattle.std.proofs.Math.Option.{Option, none, some}
+use Rattle.std.specs.Prelude.{◌≡◌, true, List, [], ◌∷◌, ℕ, ◌≤◌, ◌<◌, length, Option, None, Some}
 use Rattle.words.specs.Words.{among, Programmed}
 use Rattle.memory.specs.Memory.{blank_flash}
 use Rattle.memory.specs.Pages.{pages_met, block_start, block_ff}
@@ -28,73 +27,73 @@ use Rattle.rules.specs.Step.{Event, Ask, PowerUp, ask, step, last_sent}
 -- "for programming flash, the pages that the range meets; 64, 64, 128, 256 for the erases; else 0. .. at most 9 for a program
 -- transfer."
 abbrev pub PagesOf : Option Command → ℕ → Type 0
-PagesOf none n = n ≡ 0
-PagesOf (some (ProgramFlash a e)) n = (n ≡ pages_met a.0 e.0) × (n ≤ 9)
-PagesOf (some (ProgramEeprom a e)) n = n ≡ 0
-PagesOf (some (Read r)) n = n ≡ 0
-PagesOf (some (BlankCheck a e)) n = n ≡ 0
-PagesOf (some (EraseBlock Low)) n = n ≡ 64
-PagesOf (some (EraseBlock Middle)) n = n ≡ 64
-PagesOf (some (EraseBlock High)) n = n ≡ 128
-PagesOf (some EraseChip) n = n ≡ 256
-PagesOf (some (WriteByte i v)) n = n ≡ 0
-PagesOf (some (WriteHsb v)) n = n ≡ 0
-PagesOf (some StartReset) n = n ≡ 0
-PagesOf (some (StartAt a)) n = n ≡ 0
-PagesOf (some ReadVersion) n = n ≡ 0
-PagesOf (some (ReadByte i)) n = n ≡ 0
-PagesOf (some ReadHsb) n = n ≡ 0
+PagesOf None n = n ≡ 0
+PagesOf (Some (ProgramFlash a e)) n = (n ≡ pages_met a.0 e.0) × (n ≤ 9)
+PagesOf (Some (ProgramEeprom a e)) n = n ≡ 0
+PagesOf (Some (Read r)) n = n ≡ 0
+PagesOf (Some (BlankCheck a e)) n = n ≡ 0
+PagesOf (Some (EraseBlock Low)) n = n ≡ 64
+PagesOf (Some (EraseBlock Middle)) n = n ≡ 64
+PagesOf (Some (EraseBlock High)) n = n ≡ 128
+PagesOf (Some EraseChip) n = n ≡ 256
+PagesOf (Some (WriteByte i v)) n = n ≡ 0
+PagesOf (Some (WriteHsb v)) n = n ≡ 0
+PagesOf (Some StartReset) n = n ≡ 0
+PagesOf (Some (StartAt a)) n = n ≡ 0
+PagesOf (Some ReadVersion) n = n ≡ 0
+PagesOf (Some (ReadByte i)) n = n ≡ 0
+PagesOf (Some ReadHsb) n = n ≡ 0
 
 -- the flash, of which a byte that is not in the range stays
 abbrev pub FlashAfter : Option Command → List ℕ → List ℕ → List ℕ → Type 0
-FlashAfter none d before after = after ≡ before
-FlashAfter (some (ProgramFlash a e)) d before after = Programmed a.0 (body_of a.0 e.0 d) before after
-FlashAfter (some (ProgramEeprom a e)) d before after = after ≡ before
-FlashAfter (some (Read r)) d before after = after ≡ before
-FlashAfter (some (BlankCheck a e)) d before after = after ≡ before
-FlashAfter (some (EraseBlock k)) d before after = Programmed (block_start k) (block_ff k) before after
-FlashAfter (some EraseChip) d before after = after ≡ blank_flash
-FlashAfter (some (WriteByte i v)) d before after = after ≡ before
-FlashAfter (some (WriteHsb v)) d before after = after ≡ before
-FlashAfter (some StartReset) d before after = after ≡ before
-FlashAfter (some (StartAt a)) d before after = after ≡ before
-FlashAfter (some ReadVersion) d before after = after ≡ before
-FlashAfter (some (ReadByte i)) d before after = after ≡ before
-FlashAfter (some ReadHsb) d before after = after ≡ before
+FlashAfter None d before after = after ≡ before
+FlashAfter (Some (ProgramFlash a e)) d before after = Programmed a.0 (body_of a.0 e.0 d) before after
+FlashAfter (Some (ProgramEeprom a e)) d before after = after ≡ before
+FlashAfter (Some (Read r)) d before after = after ≡ before
+FlashAfter (Some (BlankCheck a e)) d before after = after ≡ before
+FlashAfter (Some (EraseBlock k)) d before after = Programmed (block_start k) (block_ff k) before after
+FlashAfter (Some EraseChip) d before after = after ≡ blank_flash
+FlashAfter (Some (WriteByte i v)) d before after = after ≡ before
+FlashAfter (Some (WriteHsb v)) d before after = after ≡ before
+FlashAfter (Some StartReset) d before after = after ≡ before
+FlashAfter (Some (StartAt a)) d before after = after ≡ before
+FlashAfter (Some ReadVersion) d before after = after ≡ before
+FlashAfter (Some (ReadByte i)) d before after = after ≡ before
+FlashAfter (Some ReadHsb) d before after = after ≡ before
 
 -- the EEPROM, of which a byte that is not in the range stays, and every byte in a full chip erase
 abbrev pub EepromAfter : Option Command → List ℕ → List ℕ → List ℕ → Type 0
-EepromAfter none d before after = after ≡ before
-EepromAfter (some (ProgramFlash a e)) d before after = after ≡ before
-EepromAfter (some (ProgramEeprom a e)) d before after = Programmed a.0 (body_of a.0 e.0 d) before after
-EepromAfter (some (Read r)) d before after = after ≡ before
-EepromAfter (some (BlankCheck a e)) d before after = after ≡ before
-EepromAfter (some (EraseBlock k)) d before after = after ≡ before
-EepromAfter (some EraseChip) d before after = after ≡ before
-EepromAfter (some (WriteByte i v)) d before after = after ≡ before
-EepromAfter (some (WriteHsb v)) d before after = after ≡ before
-EepromAfter (some StartReset) d before after = after ≡ before
-EepromAfter (some (StartAt a)) d before after = after ≡ before
-EepromAfter (some ReadVersion) d before after = after ≡ before
-EepromAfter (some (ReadByte i)) d before after = after ≡ before
-EepromAfter (some ReadHsb) d before after = after ≡ before
+EepromAfter None d before after = after ≡ before
+EepromAfter (Some (ProgramFlash a e)) d before after = after ≡ before
+EepromAfter (Some (ProgramEeprom a e)) d before after = Programmed a.0 (body_of a.0 e.0 d) before after
+EepromAfter (Some (Read r)) d before after = after ≡ before
+EepromAfter (Some (BlankCheck a e)) d before after = after ≡ before
+EepromAfter (Some (EraseBlock k)) d before after = after ≡ before
+EepromAfter (Some EraseChip) d before after = after ≡ before
+EepromAfter (Some (WriteByte i v)) d before after = after ≡ before
+EepromAfter (Some (WriteHsb v)) d before after = after ≡ before
+EepromAfter (Some StartReset) d before after = after ≡ before
+EepromAfter (Some (StartAt a)) d before after = after ≡ before
+EepromAfter (Some ReadVersion) d before after = after ≡ before
+EepromAfter (Some (ReadByte i)) d before after = after ≡ before
+EepromAfter (Some ReadHsb) d before after = after ≡ before
 
 -- the configuration
 abbrev pub config_after : Option Command → Config → Config
-config_after none c = c
-config_after (some (ProgramFlash a e)) c = c
-config_after (some (ProgramEeprom a e)) c = c
-config_after (some (Read r)) c = c
-config_after (some (BlankCheck a e)) c = c
-config_after (some (EraseBlock k)) c = c
-config_after (some EraseChip) c = erased_config c
-config_after (some (WriteByte i v)) c = with_byte i v c
-config_after (some (WriteHsb v)) c = with_hsb v c
-config_after (some StartReset) c = c
-config_after (some (StartAt a)) c = c
-config_after (some ReadVersion) c = c
-config_after (some (ReadByte i)) c = c
-config_after (some ReadHsb) c = c
+config_after None c = c
+config_after (Some (ProgramFlash a e)) c = c
+config_after (Some (ProgramEeprom a e)) c = c
+config_after (Some (Read r)) c = c
+config_after (Some (BlankCheck a e)) c = c
+config_after (Some (EraseBlock k)) c = c
+config_after (Some EraseChip) c = erased_config c
+config_after (Some (WriteByte i v)) c = with_byte i v c
+config_after (Some (WriteHsb v)) c = with_hsb v c
+config_after (Some StartReset) c = c
+config_after (Some (StartAt a)) c = c
+config_after (Some ReadVersion) c = c
+config_after (Some (ReadByte i)) c = c
+config_after (Some ReadHsb) c = c
 
 -- a request with the data d, answered with r, leaves these
 pub record Leaves (b : Board) (d : List ℕ) (r : Result) : Type 0 where
@@ -142,7 +141,7 @@ pub record AcceptedRightly (b : Board) (d : List ℕ) (k : Command) (r : Result)
 
 abbrev pub AcceptedOnly : Type 0
 AcceptedOnly = (b : Board) (setup d : List ℕ) (n : ℕ) (k : Command)
-    → (ask b setup d n).accepted ≡ some k → AcceptedRightly b d k (ask b setup d n)
+    → (ask b setup d n).accepted ≡ Some k → AcceptedRightly b d k (ask b setup d n)
 
 -- DNLOAD of 1 to 1,103 bytes in state 2 or 5, not refused
 pub record Commands (b : Board) (setup d : List ℕ) (n : ℕ) : Type 0 where
@@ -155,13 +154,13 @@ pub record Commands (b : Board) (setup d : List ℕ) (n : ℕ) : Type 0 where
 
 abbrev pub AcceptedAlways : Type 0
 AcceptedAlways = (b : Board) (setup d : List ℕ) (n : ℕ) (k : Command) → Commands b setup d n
-    → read_command d ≡ Taken k (parts_of k d) → level_status k (level b.config) ≡ 0x00 → (ask b setup d n).accepted ≡ some k
+    → read_command d ≡ Taken k (parts_of k d) → level_status k (level b.config) ≡ 0x00 → (ask b setup d n).accepted ≡ Some k
 
 -- a DNLOAD that has bytes and is not refused, in any state and however long, is accepted or leaves state 10; by `Effects`, memories and
 -- configuration then stay
 abbrev pub NotAcceptedSaid : Type 0
 NotAcceptedSaid = (b : Board) (setup d : List ℕ) (n bytes : ℕ) → refusal b setup d n ≡ 0 → request_of setup ≡ Dnload bytes → 0 < bytes
-    → (ask b setup d n).accepted ≡ none → (ask b setup d n).session.state ≡ 10
+    → (ask b setup d n).accepted ≡ None → (ask b setup d n).session.state ≡ 10
 
 -- ---- an error status
 

@@ -1,8 +1,7 @@
 -- What level 2 gives away of the flash. 01 calls this demand 3 and does not spell it out: it has "Demand 3 is stated over demand
 -- 2's definition", and "demand 3's converse". Two boards with the same blank bytes can't be told apart; the converse is that two
 -- with different ones can. Proved in proofs/LevelTwoHolds.antt.
-use Rattle.std.specs.Prelude.{if◌then◌else◌, ◌≡◌, Bool, true, false, List, [], ◌∷◌, ℕ, ◌/◌, ◌%◌, ◌<◌, length}
-use Rattle.std.proofs.Math.Option.{Option, none, some}
+use Rattle.std.specs.Prelude.{if◌then◌else◌, ◌≡◌, Bool, true, false, List, [], ◌∷◌, ℕ, ◌/◌, ◌%◌, ◌<◌, length, Option, None, Some}
 use Rattle.memory.specs.Memory.{flash_size}
 use Rattle.blank.specs.Blank.{SameBlank}
 use Rattle.config.specs.Level.{level}
@@ -28,20 +27,20 @@ pub record Alike (b b' : Board) : Type 0 where
 
 -- an accepted full chip erase, told by the command
 abbrev pub is_chip_erase : Option Command → Bool
-is_chip_erase none = false
-is_chip_erase (some (ProgramFlash a e)) = false
-is_chip_erase (some (ProgramEeprom a e)) = false
-is_chip_erase (some (Read r)) = false
-is_chip_erase (some (BlankCheck a e)) = false
-is_chip_erase (some (EraseBlock k)) = false
-is_chip_erase (some EraseChip) = true
-is_chip_erase (some (WriteByte i v)) = false
-is_chip_erase (some (WriteHsb v)) = false
-is_chip_erase (some StartReset) = false
-is_chip_erase (some (StartAt a)) = false
-is_chip_erase (some ReadVersion) = false
-is_chip_erase (some (ReadByte i)) = false
-is_chip_erase (some ReadHsb) = false
+is_chip_erase None = false
+is_chip_erase (Some (ProgramFlash a e)) = false
+is_chip_erase (Some (ProgramEeprom a e)) = false
+is_chip_erase (Some (Read r)) = false
+is_chip_erase (Some (BlankCheck a e)) = false
+is_chip_erase (Some (EraseBlock k)) = false
+is_chip_erase (Some EraseChip) = true
+is_chip_erase (Some (WriteByte i v)) = false
+is_chip_erase (Some (WriteHsb v)) = false
+is_chip_erase (Some StartReset) = false
+is_chip_erase (Some (StartAt a)) = false
+is_chip_erase (Some ReadVersion) = false
+is_chip_erase (Some (ReadByte i)) = false
+is_chip_erase (Some ReadHsb) = false
 
 -- the events up to and including the first full chip erase
 abbrev pub up_to_erase : Board → List Event → List Event
@@ -56,7 +55,7 @@ KeptSecret = (b b' : Board) → Alike b b' → (vs : List Event) → reports b (
 -- no accepted full chip erase in a run
 abbrev pub Unerased : Board → List Event → Type 0
 Unerased b [] = Unit {0}
-Unerased b (v ∷ vs) = ((step b v).accepted ≡ some EraseChip → ⊥) × Unerased (next b (step b v)) vs
+Unerased b (v ∷ vs) = ((step b v).accepted ≡ Some EraseChip → ⊥) × Unerased (next b (step b v)) vs
 
 -- no boards and no events are left out: `Alike` is a board at level 2 and the same board with another EEPROM of its size and another flash of
 -- its size and blank bytes; a run without a full chip erase is compared to its end

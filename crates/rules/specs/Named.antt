@@ -1,7 +1,6 @@
 -- What is built of its parts has each of them in its place: a session, a board, and the results that a statement names by their parts. Proved in
 -- proofs/NamedHolds.antt.
-use Rattle.std.specs.Prelude.{◌≡◌, false, List, [], ◌∷◌, ℕ, ◌≤◌, ◌<◌, length}
-use Rattle.std.proofs.Math.Option.{none, some}
+use Rattle.std.specs.Prelude.{◌≡◌, false, List, [], ◌∷◌, ℕ, ◌≤◌, ◌<◌, length, None, Some}
 use Rattle.words.specs.Words.{overlay}
 use Rattle.memory.specs.Pages.{program_stores, block_stores, chip_stores}
 use Rattle.config.specs.Level.{level}
@@ -53,7 +52,7 @@ pub record Named : Type 0 where
   pub no_patch : (m : List ℕ) → patch_all [] m ≡ m
   -- outcome, what is sent and the session after it; "memory and configuration stay", and no command is accepted
   pub of_reply : (c : Config) (o : Outcome) (bs : List ℕ) (s : Session)
-      → reply c o bs s ≡ record { outcome = o; sent = bs; session = s; config = c; stored = []; patched = []; accepted = none }
+      → reply c o bs s ≡ record { outcome = o; sent = bs; session = s; config = c; stored = []; patched = []; accepted = None }
   pub of_stall : (b : Board) → Stalls b (stall b)
   -- each request is answered by what is said of it
   pub of_requests : (b : Board) (d : List ℕ) → (respond b GetStatus d ≡ get_status b) × (respond b GetState d ≡ get_state b)
@@ -62,7 +61,7 @@ pub record Named : Type 0 where
   -- a request that is not refused is answered so, and DNLOAD's 1 to 1,103 bytes are a command in states 2 and 5
   pub of_ask : (b : Board) (setup d : List ℕ) (n : ℕ) → refusal b setup d n ≡ 0 → ask b setup d n ≡ respond b (request_of setup) d
   pub of_command : (b : Board) (n : ℕ) (d : List ℕ) → 0 < n → n ≤ 1103 → In b.session.state (2 ∷ 5 ∷ []) → dnload b n d ≡ obey_form b (form d) d
-  pub of_accepted : (b : Board) (k : Command) (d : List ℕ) → form d ≡ some k → level_status k (level b.config) ≡ 0x00 → bad_address k ≡ false
+  pub of_accepted : (b : Board) (k : Command) (d : List ℕ) → form d ≡ Some k → level_status k (level b.config) ≡ 0x00 → bad_address k ≡ false
       → bad_length k d ≡ false → obey_form b (form d) d ≡ accept k (perform b k d)
   -- "A status above is set with state 10 and nothing pending, and nothing else moves."
   pub of_status : (b : Board) (status : ℕ) → set_status b status ≡ reply b.config Done [] (session 10 status Nothing b.session.busy)
@@ -75,5 +74,5 @@ pub record Named : Type 0 where
     config = x.config;
     stored = x.stored;
     patched = x.patched;
-    accepted = some k;
+    accepted = Some k;
   }

@@ -1,6 +1,5 @@
 -- What a request gives, as data: the answer, and what it does to the board. Assumes nothing: these are definitions.
-use Rattle.std.specs.Prelude.{List, [], ◌∷◌, ◌++◌, ℕ, ◌+◌, length, drop}
-use Rattle.std.proofs.Math.Option.{Option, none}
+use Rattle.std.specs.Prelude.{List, [], ◌∷◌, ◌++◌, ℕ, ◌+◌, length, drop, Option, None}
 use Rattle.words.specs.Words.{overlay}
 use Rattle.memory.specs.Pages.{Store, store_all}
 use Rattle.memory.specs.declared.address.EepromAddress.{EepromAddress}
@@ -72,4 +71,4 @@ reply_after r reply = r.sent ++ drop (length r.sent) reply
 
 -- an answer that changes neither memory nor configuration and accepts no command
 abbrev pub reply : Config → Outcome → List ℕ → Session → Result
-reply c o bs s = record { outcome = o; sent = bs; session = s; config = c; stored = []; patched = []; accepted = none }
+reply c o bs s = record { outcome = o; sent = bs; session = s; config = c; stored = []; patched = []; accepted = None }

@@ -1,8 +1,8 @@
 -- A record's answer by what the reader says of it.
 -- Assumes nothing.
+use Rattle.std.specs.Prelude.{Option, None, Some}
 use mathlib.Core.Path.{◌≡◌, refl, sym, ap, ◌∙◌}
 use mathlib.Core.List.{List}
-use mathlib.Core.Option.{Option, none, some}
 use Prim.Native.Nat.{ℕ, ◌≤◌}
 use lib.ListN.{length, take, drop}
 use lib.Seq.{take_at, length-take-le}
@@ -25,13 +25,13 @@ use Rattle.plugtables.specs.Form.{form_of}
 use Rattle.plugtables.specs.declared.form.Form.TheVariants.{Is, Unlisted}
 
 -- what a form says of the command
-pub listed : (o : Option Command) (k : Command) → form_of o ≡ Is k → o ≡ some k
-listed none k q = absurd (let n : ◌≡◌ {A = ℕ} 0 1 = cc in omega arith)
-listed (some j) k q = cc
+pub listed : (o : Option Command) (k : Command) → form_of o ≡ Is k → o ≡ Some k
+listed None k q = absurd (let n : ◌≡◌ {A = ℕ} 0 1 = cc in omega arith)
+listed (Some j) k q = cc
 
-pub unlisted : (o : Option Command) → form_of o ≡ Unlisted → o ≡ none
-unlisted none q = refl
-unlisted (some j) q = absurd (let n : ◌≡◌ {A = ℕ} 0 1 = cc in omega arith)
+pub unlisted : (o : Option Command) → form_of o ≡ Unlisted → o ≡ None
+unlisted None q = refl
+unlisted (Some j) q = absurd (let n : ◌≡◌ {A = ℕ} 0 1 = cc in omega arith)
 
 -- a flash of another size
 pub wrong_size : (b : Board) (cs : List ℕ) (n : ℕ) {a : Answer} {f p p₀ : List ℕ} → (length b.flash ≡ flash_size → ⊥)

@@ -1,10 +1,9 @@
 -- The statements of specs/RoundTrip.antt hold.
 -- Assumes nothing.
-use Rattle.std.specs.Prelude.{if◌then◌else◌}
+use Rattle.std.specs.Prelude.{if◌then◌else◌, Some}
 use mathlib.Core.Path.{◌≡◌, refl, sym, ap, ◌∙◌, subst}
 use mathlib.Core.Bool.{Bool, true, false}
 use mathlib.Core.List.{List, [], ◌∷◌, ◌++◌, append_assoc, append-nil}
-use mathlib.Core.Option.{some}
 use Prim.Native.Nat.{ℕ, zero, suc, ◌+◌, ◌-◌, ◌*◌, ◌/◌, ◌%◌, ◌≤◌, ◌<◌}
 use native.Mathlib.Omega.{arith}
 use lib.Dec.{T, ltb, ltb→lt}
@@ -115,7 +114,7 @@ module _ (k : Command) (a e : ℕ) (t : Carries k a e) (d s : List ℕ) (ld : le
 address_back : (a : ℕ) → a / 256 * 256 + a % 256 ≡ a
 address_back a = omega arith
 
-form_back : (k : Command) (d s : List ℕ) → bad_write k (length d) (length s) ≡ false → form (command_bytes k d s) ≡ some k
+form_back : (k : Command) (d s : List ℕ) → bad_write k (length d) (length s) ≡ false → form (command_bytes k d s) ≡ Some k
 unfolding form command_bytes head_bytes
 form_back (ProgramFlash a e) d s w =
     let six : 6 ≤ length (command_bytes (ProgramFlash a e) d s) = omega arith in

@@ -1,7 +1,7 @@
 -- `fates::perform::perform` meets its contract: each arm is a row of the command table.
 -- Assumes nothing.
+use Rattle.std.specs.Prelude.{Some}
 use Rattle.std.proofs.Common.{◌≡◌, ℕ, ◌-◌, List, take, drop, ap, ◌∙◌}
-use mathlib.Core.Option.{some}
 use mathlib.Core.Path.{subst}
 use Rattle.memory.proofs.PageCountLaws.{flash_stores_few, block_erase_few, chip_erase_few}
 use Rattle.command.specs.declared.command.Command.{Command}
@@ -33,7 +33,7 @@ pub stores-requires-in-EraseChip : goal.stores-requires-in-EraseChip
 stores-requires-in-EraseChip c = rw c.erase_chip-pages.ensures.value (chip_erase_few _)
 
 pub byte_of-requires : goal.byte_of-requires
-byte_of-requires c = form_readable _ _ (c.requires.acceptable.formed ∙ ap some c.in-ReadByte.is)
+byte_of-requires c = form_readable _ _ (c.requires.acceptable.formed ∙ ap Some c.in-ReadByte.is)
 
 pub returns-in-ProgramFlash : goal.returns-in-ProgramFlash
 returns-in-ProgramFlash c =

@@ -1,8 +1,8 @@
 -- `plugcommands::commands::perform` meets its contract: each arm is a command.
 -- Assumes nothing.
+use Rattle.std.specs.Prelude.{Some}
 use mathlib.Core.Path.{refl, ap}
 use mathlib.Core.List.{[]}
-use mathlib.Core.Option.{some}
 use lib.ListN.{length}
 use Rattle.blank.specs.Blank.{used_in}
 use Rattle.plug.specs.Config.{byte_value}
@@ -65,7 +65,7 @@ pub returns-in-StartReset : goal.returns-in-StartReset
 unfolding perform
 returns-in-StartReset c =
     rw (c.in-StartReset.is, c.quiet.ensures)
-    (quiet_stepped (board c.args.config c.args.flash.now) (length c.args.room.now) _ (some StartReset) _)
+    (quiet_stepped (board c.args.config c.args.flash.now) (length c.args.room.now) _ (Some StartReset) _)
 
 pub returns-in-StartAt : goal.returns-in-StartAt
 unfolding perform

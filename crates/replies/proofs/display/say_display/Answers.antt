@@ -1,7 +1,7 @@
 -- `replies::display::say_display` meets its contract.
 -- Assumes nothing.
+use Rattle.std.specs.Prelude.{None}
 use Rattle.std.proofs.Common.{◌≡◌, ◌+◌, ◌-◌, length, refl, arith}
-use Rattle.std.proofs.Math.Option.{none}
 use Rattle.plug.specs.Answers.{display_text}
 use Rattle.plug.specs.Step.{told}
 use Rattle.plug.proofs.AnswerLaws.{length_display}
@@ -13,13 +13,13 @@ pub returns-then-flash-ne-FLASH_SIZE : goal.returns-then-flash-ne-FLASH_SIZE
 returns-then-flash-ne-FLASH_SIZE c =
     let a = c.args in
     rw (c.quiet.ensures, wrong_flash a.config a.start.0 a.end.0 a.flash.now c.if-flash-ne-FLASH_SIZE.true)
-    (quiet_replied _ (length a.room.now) _ none _)
+    (quiet_replied _ (length a.room.now) _ None _)
 
 pub returns-then-past-first : goal.returns-then-past-first
 returns-then-past-first c =
     let a = c.args in
     rw (c.quiet-then-past-first.ensures, backward a.config a.start.0 a.end.0 a.flash.now c.if-flash-ne-FLASH_SIZE.false (omega arith))
-    (quiet_replied _ (length a.room.now) _ none _)
+    (quiet_replied _ (length a.room.now) _ None _)
 
 pub returns-then-room-size : goal.returns-then-room-size
 returns-then-room-size c =

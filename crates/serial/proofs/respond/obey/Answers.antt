@@ -1,6 +1,6 @@
 -- `serial::respond::obey` meets its contract.
 -- Assumes nothing.
-use mathlib.Core.Option.{none}
+use Rattle.std.specs.Prelude.{None}
 use Rattle.std.proofs.Common.{◌≡◌, true, false, length, refl, sym}
 use Rattle.plug.specs.Config.{level}
 use Rattle.plug.specs.Levels.{allowed}
@@ -15,7 +15,7 @@ unfolding obey
 returns-then-bad_range c =
     let a = c.args in
     let bad : bad_range a.command (length a.sent.now) ≡ true = sym c.if-bad_range.ensures in
-    rw (bad, c.quiet.ensures) (quiet_stepped (board a.config a.flash.now) (length a.room.now) _ none _)
+    rw (bad, c.quiet.ensures) (quiet_stepped (board a.config a.flash.now) (length a.room.now) _ None _)
 
 pub returns-then-not-is_allowed : goal.returns-then-not-is_allowed
 unfolding obey

@@ -1,6 +1,6 @@
 -- `serial::respond::obey_record` meets its contract.
 -- Assumes nothing.
-use mathlib.Core.Option.{none}
+use Rattle.std.specs.Prelude.{None}
 use Rattle.std.proofs.Common.{length, sym}
 use Rattle.plug.specs.Commands.{form}
 use Rattle.plug.specs.Step.{board}
@@ -19,4 +19,4 @@ returns-in-Unlisted c =
     let a = c.args in
     let o = form a.fields.kind a.fields.offset a.sent.now in
     rw (unlisted o (sym c.in-Unlisted.ensures), c.quiet.ensures)
-    (quiet_stepped (board a.config a.flash.now) (length a.room.now) _ none _)
+    (quiet_stepped (board a.config a.flash.now) (length a.room.now) _ None _)

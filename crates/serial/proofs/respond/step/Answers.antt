@@ -1,6 +1,6 @@
 -- `serial::respond::step` meets its contract: by what the reader says.
 -- Assumes nothing.
-use mathlib.Core.Option.{none}
+use Rattle.std.specs.Prelude.{None}
 use Rattle.std.proofs.Common.{length, refl}
 use Rattle.record.specs.declared.fields.Reading.TheVariants.{Taken, WrongChecksum, Refused}
 use Rattle.plug.specs.Answers.{wrong_checksum_text}
@@ -14,7 +14,7 @@ returns-then-wrong_size c =
     let a = c.args in
     let b = board a.config a.flash.now in
     let n = length a.room.now in
-    wrong_size b a.characters.now n c.if-wrong_size.true (rw c.quiet.ensures (quiet_stepped b n _ none _))
+    wrong_size b a.characters.now n c.if-wrong_size.true (rw c.quiet.ensures (quiet_stepped b n _ None _))
 
 pub slice_bounds-held-end : goal.slice_bounds-held-end
 slice_bounds-held-end c =
@@ -52,4 +52,4 @@ returns-in-Refused c =
     let number = c.in-Refused.number in
     let refused = was_read a.characters.now _ refl _ c.read_record.ensures.value (Refused number) c.in-Refused.is in
     by_reading b a.characters.now n (Refused number) c.if-wrong_size.false refused
-    (rw c.quiet-in-Refused.ensures (quiet_stepped b n _ none _))
+    (rw c.quiet-in-Refused.ensures (quiet_stepped b n _ None _))
