@@ -46,7 +46,7 @@ pub record Layout : Type 0 where
   pub whole : (k : Command) (a e n : ℕ) → Programs k a e → a + n ≡ e + 1 → (d : List ℕ) → bad_length k d ≡ false → length d ≡ 48 + a % 32 + n
   -- X and n of a command that programs
   pub transfer : (k : Command) (a e : ℕ) → Programs k a e → transfer_of k ≡ Of (a % 32) (count a e)
-  pub None : (k : Command) → ((a e : ℕ) → Programs k a e → ⊥) → transfer_of k ≡ NoTransfer
+  pub none : (k : Command) → ((a e : ℕ) → Programs k a e → ⊥) → transfer_of k ≡ NoTransfer
   -- no other command has bytes, a suffix or a whole length
   pub no_transfer : (k : Command) → ((a e : ℕ) → Programs k a e → ⊥) → (d : List ℕ) → CarriesNone k d
 

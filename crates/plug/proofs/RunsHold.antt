@@ -24,7 +24,7 @@ pub runs : Runs
 runs = record {
   asked = λ b b' l s f e. record { at_level_2 = l; same_ssb = s; same_flash_size = f; same_blank = e };
   told = λ r r' q. (ap (λ x. x.outcome) q, ap (λ x. x.text) q, ap (λ x. x.page_count_lem) q);
-  None = λ b. refl;
+  none = λ b. refl;
   in_turn = λ b cs n vs. refl;
   cut = λ b v vs q. rw (ap is_chip_erase q);
   not_cut = λ b v vs h. rw (no_erase _ h);

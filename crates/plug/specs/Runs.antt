@@ -14,7 +14,7 @@ pub record Runs : Type 0 where
   -- two records that are reported alike have one outcome, one answer and one page count
   pub told : (r r' : Result) → report r ≡ report r' → (r.outcome ≡ r'.outcome) × (r.text ≡ r'.text) × (length r.stored ≡ length r'.stored)
   -- a run is reported record by record, each on the board that the one before it left
-  pub None : (b : Board) → reports b [] ≡ []
+  pub none : (b : Board) → reports b [] ≡ []
   pub in_turn : (b : Board) (cs : List ℕ) (n : ℕ) (vs : List Event)
       → reports b (sent cs n ∷ vs) ≡ report (step b cs n) ∷ reports (next b (step b cs n)) vs
   -- it is cut off behind a full chip erase that is done, and nowhere else
