@@ -1,5 +1,6 @@
 -- The sentences of specs/Frames.antt hold; but for the characters that are no digit and for every record and room each is computed.
 -- Assumes nothing.
+use Rattle.std.specs.Prelude.{Ok, Err}
 use mathlib.Core.Path.{◌≡◌, refl, sym, ap, ◌∙◌}
 use mathlib.Core.Bool.{true, false, true≢false}
 use mathlib.Core.List.{List, ◌++◌}
@@ -14,8 +15,9 @@ use Rattle.words.specs.Words.{byte_at}
 use Rattle.words.proofs.WordsLaws.{overlay_front}
 use Rattle.record.specs.Digits.{no_digit, digit_value, is_digit}
 use Rattle.record.specs.Record.{record_mark, character_count, most_data, sum, record_of, bytes_of, data_of}
-use Rattle.record.specs.Reader.{Fields, Taken, WrongChecksum, Refused, length_field, well_formed, reading, read_record, room_read}
-use Rattle.record.specs.Writer.{Wrote, Unwritten, write_record, room_written}
+use Rattle.record.specs.Reader.{Fields, WrongChecksum, BadRecord, TooShort, length_field, well_formed, reading, read_record, room_read}
+use Rattle.record.specs.Writer.{write_record, room_written}
+use Rattle.record.specs.declared.writer.WriteError.TheVariants as W
 use Rattle.record.specs.Frames.{Frames}
 use Rattle.record.proofs.DigitsLaws.{all_digits_lem}
 use Rattle.record.proofs.RecordLaws.{length_record_of}
@@ -86,26 +88,26 @@ module _ (cs : List ℕ) where
   bad_length_lem h = ill_formed cs (λ d q. h (omega arith))
 
   module _ (room : List ℕ) where
-    malformed : well_formed cs ≡ false → (read_record cs room ≡ Refused 17) × (room_read cs room ≡ room)
+    malformed : well_formed cs ≡ false → (read_record cs room ≡ Err BadRecord) × (room_read cs room ≡ room)
     unfolding Answer
     malformed h = let a = refused cs room h in (sym a.0, sym a.1)
 
-    sum_before_room : well_formed cs ≡ true → (sum (bytes_of cs) % 256 ≡ 0 → ⊥) → (read_record cs room ≡ WrongChecksum) × (room_read cs room ≡ room)
+    sum_before_room : well_formed cs ≡ true → (sum (bytes_of cs) % 256 ≡ 0 → ⊥) → (read_record cs room ≡ Err WrongChecksum) × (room_read cs room ≡ room)
     unfolding reading Answer
     sum_before_room w h =
-        let a = no_data cs room WrongChecksum (rw (w, ne_eqb (sum (bytes_of cs) % 256) 0 h)) refl in
+        let a = no_data cs room (Err WrongChecksum) (rw (w, ne_eqb (sum (bytes_of cs) % 256) 0 h)) refl in
         (sym a.0, sym a.1)
 
-    module _ (f : Fields) (q : reading cs ≡ Taken f) where
+    module _ (f : Fields) (q : reading cs ≡ Ok f) where
       count : length (data_of cs f.length) ≡ f.length
       count = (data_size cs f q).0
 
-      room_short : length room < f.length → (read_record cs room ≡ Refused 9) × (room_read cs room ≡ room)
+      room_short : length room < f.length → (read_record cs room ≡ Err TooShort) × (room_read cs room ≡ room)
       unfolding read_record room_read
       room_short h = let t = lt-ltb (length room) f.length h in (rw (q, count, t), rw (q, count, t))
 
       room_right : f.length ≤ length room
-          → (read_record cs room ≡ Taken f) × (room_read cs room ≡ data_of cs f.length ++ drop f.length room)
+          → (read_record cs room ≡ Ok f) × (room_read cs room ≡ data_of cs f.length ++ drop f.length room)
       unfolding read_record room_read
       room_right h =
           let t = le-ltb (length room) f.length h in
@@ -117,12 +119,12 @@ module _ (offset kind : ℕ) (d room : List ℕ) where
   size : length (record_of offset kind d) ≡ 11 + 2 * length d
   size = omega (arith, length_record_of offset kind d)
 
-  too_much : 255 < length d → (write_record offset kind d room ≡ Unwritten 17) × (room_written offset kind d room ≡ room)
+  too_much : 255 < length d → (write_record offset kind d room ≡ Err W.BadRecord) × (room_written offset kind d room ≡ room)
   unfolding write_record room_written
   too_much h = let many = lt-ltb most_data (length d) h in (rw many, rw many)
 
   no_room : length d ≤ 255 → length room < 11 + 2 * length d
-      → (write_record offset kind d room ≡ Unwritten 9) × (room_written offset kind d room ≡ room)
+      → (write_record offset kind d room ≡ Err W.TooShort) × (room_written offset kind d room ≡ room)
   unfolding write_record room_written
   no_room h l =
       let few = le-ltb most_data (length d) h in
@@ -130,13 +132,13 @@ module _ (offset kind : ℕ) (d room : List ℕ) where
       (rw (few, short), rw (few, short))
 
   enough_room : length d ≤ 255 → 11 + 2 * length d ≤ length room
-      → (write_record offset kind d room ≡ Wrote (11 + 2 * length d))
+      → (write_record offset kind d room ≡ Ok (11 + 2 * length d))
       × (room_written offset kind d room ≡ record_of offset kind d ++ drop (11 + 2 * length d) room)
   unfolding write_record room_written
   enough_room h l =
       let few = le-ltb most_data (length d) h in
       let fits = le-ltb (length room) (length (record_of offset kind d)) (rw size l) in (
-        rw (few, fits) (ap Wrote size),
+        rw (few, fits) (ap Ok size),
         rw (few, fits) (overlay_front (record_of offset kind d) room ∙ rw size),
       )
 
@@ -186,7 +188,10 @@ frames = record {
   enough_room = enough_room;
   taken_0 = λ f. refl;
   wrong_1 = refl;
-  refused_k = λ k. refl;
+  refused_17 = refl;
+  refused_9 = refl;
   wrote_0 = λ n. (refl, refl);
-  unwritten_k = λ k. (refl, refl);
+  unwritten_17 = refl;
+  unwritten_9 = refl;
+  unwritten_0 = λ e. refl;
 }

@@ -1,4 +1,4 @@
--- The law of tables, laws of digits and records, the round trip, and the statements.
+-- The law of tables, laws of digits and records, the round trip, the statements, and what the public functions permit.
 pub mod Table
 pub mod DigitsLaws
 pub mod RecordLaws
@@ -8,3 +8,4 @@ pub mod RoundTripHolds
 pub mod PaperRecords
 pub mod FramesHold
 pub mod FrameBytesHold
+pub mod OneAnswer

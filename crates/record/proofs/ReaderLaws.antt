@@ -1,5 +1,6 @@
 -- Laws of the record reader: what is no record, and its answers without data.
 -- Assumes nothing.
+use Rattle.std.specs.Prelude.{Err}
 use mathlib.Core.Path.{◌≡◌, refl, sym}
 use mathlib.Core.Bool.{Bool, true, false, ◌&&◌}
 use mathlib.Core.List.{List, []}
@@ -11,7 +12,7 @@ use Rattle.words.specs.Words.{byte_at}
 use Rattle.words.proofs.WordsLaws.{overlay_none}
 use Rattle.record.specs.Digits.{all_digits}
 use Rattle.record.specs.Record.{record_mark, character_count}
-use Rattle.record.specs.Reader.{Reading, Refused, length_field, well_formed, reading, data_read, read_record, room_read}
+use Rattle.record.specs.Reader.{Reading, BadRecord, length_field, well_formed, reading, data_read, read_record, room_read}
 
 -- three tests, of which the last fails if the one before it passes
 fails : (a b c : Bool) → (b ≡ true → c ≡ false) → (a && b && c) ≡ false
@@ -40,6 +41,6 @@ module _ (cs : List ℕ) where
         let t = le-ltb (length room) 0 zero-le in
         (rw (q, e, t), rw (q, e, t) (sym (overlay_none 0 room)))
 
-    pub refused : well_formed cs ≡ false → Answer (Refused 17) room
+    pub refused : well_formed cs ≡ false → Answer (Err BadRecord) room
     unfolding reading
-    refused h = no_data (Refused 17) (rw h) refl
+    refused h = no_data (Err BadRecord) (rw h) refl

@@ -1,6 +1,6 @@
 -- The statements of specs/RoundTrip.antt hold.
 -- Assumes nothing.
-use Rattle.std.specs.Prelude.{if◌then◌else◌}
+use Rattle.std.specs.Prelude.{if◌then◌else◌, Ok, Err}
 use mathlib.Core.Path.{◌≡◌, refl, sym, ap, ◌∙◌, subst}
 use mathlib.Core.Bool.{Bool, true, false, ◌&&◌}
 use mathlib.Core.List.{List, [], ◌∷◌, ◌++◌}
@@ -15,9 +15,10 @@ use Rattle.words.proofs.WordsLaws.{overlay_front}
 use Rattle.lines.proofs.TextLaws.{length_hex_bytes}
 use Rattle.record.specs.Digits.{all_digits}
 use Rattle.record.specs.Record.{record_mark, head_size, most_data, character_count, sum, checksum, summed_bytes, record_over, record_of, bytes_of, data_of}
-use Rattle.record.specs.Reader.{Fields, Reading, Taken, WrongChecksum, Refused, length_field, well_formed, sums_to_zero, fields_of, reading}
+use Rattle.record.specs.Reader.{Fields, Reading, WrongChecksum, BadRecord, length_field, well_formed, sums_to_zero, fields_of, reading}
 use Rattle.record.specs.Reader.{data_read, read_record, room_read}
-use Rattle.record.specs.Writer.{Wrote, Unwritten, write_record, room_written}
+use Rattle.record.specs.Writer.{Written, write_record, room_written}
+use Rattle.record.specs.declared.writer.WriteError.TheVariants as W
 use Rattle.record.specs.RoundTrip.{Bytes, Writable, fields, ReadsAs, ReadsBack, capitals, WritesAs, WritesBack}
 use Rattle.record.proofs.DigitsLaws.{and_true, length_pairs, pairs_bytes}
 use Rattle.record.proofs.RecordLaws.{sum_append, checksum_is, checksum_zero}
@@ -26,7 +27,7 @@ use Rattle.record.proofs.HexLaws.{bytes_cons, bytes_append, pairs_hex_bytes, dig
 -- ---- what was written
 
 was_written : (t u : Bool) (d room bytes : List ℕ) (n : ℕ) → ltb most_data (length d) ≡ t
-    → (if t then Unwritten 17 else if u then Unwritten 9 else Wrote (length bytes)) ≡ Wrote n
+    → (let r : Written = if t then Err W.BadRecord else if u then Err W.TooShort else Ok (length bytes) in r ≡ Ok n)
     → (length d ≤ most_data) × (take n (if t then room else if u then room else overlay 0 bytes room) ≡ bytes)
 was_written true u d room bytes n e q = absurd (let z : ◌≡◌ {A = ℕ} 0 1 = cc in omega arith)
 was_written false true d room bytes n e q = absurd (let z : ◌≡◌ {A = ℕ} 0 1 = cc in omega arith)
@@ -83,7 +84,7 @@ module _ (offset kind : ℕ) (d : List ℕ) (w : Writable offset kind d) (short 
 
   pub reads : ReadsAs (record_of offset kind d) offset kind d
   unfolding reading
-  reads = record { fields_read = rw (well_formed_lem, sums) (ap Taken fields_back); data_read_lem = data_back }
+  reads = record { fields_read = rw (well_formed_lem, sums) (ap Ok fields_back); data_read_lem = data_back }
 
 pub reads_back : ReadsBack
 unfolding write_record room_written
@@ -93,7 +94,7 @@ reads_back offset kind d room n w q =
 
 -- ---- what was read
 
-was_read : (t u : Bool) (g f : Fields) → (if t then (if u then Taken g else WrongChecksum) else Refused 17) ≡ Taken f
+was_read : (t u : Bool) (g f : Fields) → (let r : Reading = if t then (if u then Ok g else Err WrongChecksum) else Err BadRecord in r ≡ Ok f)
     → (t ≡ true) × (u ≡ true) × (g ≡ f)
 was_read true true g f q = (refl, refl, cc)
 was_read true false g f q = absurd (let z : ◌≡◌ {A = ℕ} 0 1 = cc in omega arith)
@@ -106,7 +107,7 @@ record Was (cs : List ℕ) (f : Fields) : Type 0 where
   zero_sum : sum (bytes_of cs) % 256 ≡ 0
   fields_are : fields_of cs ≡ f
 
-was : (cs : List ℕ) (f : Fields) → reading cs ≡ Taken f → Was cs f
+was : (cs : List ℕ) (f : Fields) → reading cs ≡ Ok f → Was cs f
 unfolding reading
 was cs f q =
     let r = was_read (well_formed cs) (sums_to_zero cs) (fields_of cs) f q in
@@ -179,7 +180,7 @@ module _ (cs : List ℕ) (f : Fields) (w : Was cs f) where
 
 -- what the writer answers where it does not refuse
 wrote : (offset kind : ℕ) (d room cs : List ℕ) → length d ≤ most_data → record_of offset kind d ≡ capitals cs → length cs ≤ length room
-    → (write_record offset kind d room ≡ Wrote (length cs)) × (take (length cs) (room_written offset kind d room) ≡ capitals cs)
+    → (write_record offset kind d room ≡ Ok (length cs)) × (take (length cs) (room_written offset kind d room) ≡ capitals cs)
 unfolding write_record room_written
 wrote offset kind d room cs h q le =
     let l = length_capitals cs in
@@ -195,7 +196,7 @@ sized cs f w =
     let short = each_read cs f w 0 in
     (length_d (bytes_of cs) (each_read cs f w) (length_field cs) (length_bytes cs f w) refl w.zero_sum (data_of cs (length_field cs)) refl, omega arith)
 
-pub data_size : (cs : List ℕ) (f : Fields) → reading cs ≡ Taken f → (length (data_of cs f.length) ≡ f.length) × (f.length ≤ most_data)
+pub data_size : (cs : List ℕ) (f : Fields) → reading cs ≡ Ok f → (length (data_of cs f.length) ≡ f.length) × (f.length ≤ most_data)
 data_size cs f q =
     let w = was cs f q in
     subst (λ g. (length (data_of cs g.length) ≡ g.length) × (g.length ≤ most_data)) w.fields_are (sized cs f w)
@@ -210,9 +211,8 @@ writes_back cs f q room h =
 -- ---- a room that takes the data of every record
 
 data_short : (cs : List ℕ) (r : Reading) → reading cs ≡ r → length (data_read r cs) ≤ most_data
-data_short cs (Taken f) q = let z = data_size cs f q in omega arith
-data_short cs WrongChecksum q = zero-le
-data_short cs (Refused k) q = zero-le
+data_short cs (Ok f) q = let z = data_size cs f q in omega arith
+data_short cs (Err e) q = zero-le
 
 pub read_whole : (cs room : List ℕ) → most_data ≤ length room
     → (read_record cs room ≡ reading cs) × (room_read cs room ≡ overlay 0 (data_read (reading cs) cs) room)

@@ -1,11 +1,11 @@
 -- 002's frame, of every record, in numbers: which bytes its characters are, what each byte is, and the checksum. Proved in
 -- proofs/FrameBytesHold.antt.
-use Rattle.std.specs.Prelude.{◌↔◌, ◌≡◌, true, List, [], ◌∷◌, ◌++◌, ℕ, ◌+◌, ◌*◌, ◌/◌, ◌%◌, ◌<◌, length, take, drop}
+use Rattle.std.specs.Prelude.{◌↔◌, ◌≡◌, true, List, [], ◌∷◌, ◌++◌, ℕ, ◌+◌, ◌*◌, ◌/◌, ◌%◌, ◌<◌, length, take, drop, Ok}
 use Rattle.words.specs.Words.{byte_at}
 use Rattle.lines.specs.Text.{hex_bytes}
 use Rattle.record.specs.Digits.{digit_value}
 use Rattle.record.specs.Record.{pairs, sum, checksum, record_of, bytes_of, data_of}
-use Rattle.record.specs.Reader.{Taken, length_field, well_formed, sums_to_zero, fields_of, reading}
+use Rattle.record.specs.Reader.{length_field, well_formed, sums_to_zero, fields_of, reading}
 use Rattle.record.specs.RoundTrip.{fields}
 
 pub record FrameBytes : Type 0 where
@@ -27,4 +27,4 @@ pub record FrameBytes : Type 0 where
   pub data_read_lem : (cs : List ℕ) (n : ℕ) → data_of cs n ≡ take n (drop 4 (bytes_of cs))
   pub right_sum : (cs : List ℕ) → (sums_to_zero cs ≡ true) ↔ (sum (bytes_of cs) % 256 ≡ 0)
   -- what has its form and sums to zero is taken, in capitals and in small letters
-  pub taken : (cs : List ℕ) → well_formed cs ≡ true → sum (bytes_of cs) % 256 ≡ 0 → reading cs ≡ Taken (fields_of cs)
+  pub taken : (cs : List ℕ) → well_formed cs ≡ true → sum (bytes_of cs) % 256 ≡ 0 → reading cs ≡ Ok (fields_of cs)

@@ -1,13 +1,16 @@
 -- The record reader. Assumes nothing: these are definitions.
 use Rattle.std.specs.Prelude.{if◌then◌else◌, ◌≡◌, Bool, true, ◌&&◌, List, [], ℕ, ◌-◌, ◌/◌, ◌%◌, min, eqb, ltb, length, drop}
+use Rattle.std.specs.Prelude.{Option, None, Some, Result, Ok, Err}
 use Rattle.words.specs.Words.{byte_at, high_first, overlay}
 use Rattle.record.specs.Digits.{all_digits}
 use Rattle.record.specs.Record.{record_mark, most_data, character_count, sum, bytes_of, data_of}
 pub use Rattle.record.specs.declared.fields.Fields.{Fields}
-pub use Rattle.record.specs.declared.fields.Reading.{Reading}
-pub use Rattle.record.specs.declared.fields.Reading.TheVariants.{Taken, WrongChecksum, Refused}
-pub use Rattle.record.specs.declared.reader.Pairs.{Pairs}
-pub use Rattle.record.specs.declared.reader.Pairs.TheVariants.{Total, NoDigit}
+pub use Rattle.record.specs.declared.reader.ReadError.{ReadError}
+pub use Rattle.record.specs.declared.reader.ReadError.TheVariants.{WrongChecksum, BadRecord, TooShort}
+
+-- what the reader answers: the fields of a record, or why there are none
+abbrev pub Reading : Type 0
+Reading = Result Fields ReadError
 
 -- "Record length specifies the number of Bytes of information or data which follows the Record Type field."
 abbrev pub length_field : List ℕ → ℕ
@@ -28,18 +31,23 @@ fields_of cs = record { offset = high_first (bytes_of cs) 1; kind = byte_at (byt
 -- P2 of 02: "then 17 for a character that is no hex digit or a record of wrong length; then `X` for a wrong checksum"
 unfoldable pub reading : List ℕ → Reading
 reading cs =
-    if well_formed cs then (if sums_to_zero cs then Taken (fields_of cs) else WrongChecksum) else
-    Refused 17
+    if well_formed cs then (if sums_to_zero cs then Ok (fields_of cs) else Err WrongChecksum) else
+    Err BadRecord
+
+-- the paper's number of each error, and 1 for `X`, which has no number: no record is refused with 1
+abbrev pub read_error_number : ReadError → ℕ
+read_error_number WrongChecksum = 1
+read_error_number BadRecord = 17
+read_error_number TooShort = 9
 
 -- the bytes of data that come with each answer
 abbrev pub data_read : Reading → List ℕ → List ℕ
-data_read (Taken f) cs = data_of cs f.length
-data_read WrongChecksum cs = []
-data_read (Refused k) cs = []
+data_read (Ok f) cs = data_of cs f.length
+data_read (Err e) cs = []
 
 -- what the reader answers where the data goes into a room: 9, "room too short", comes last
 unfoldable pub read_record : List ℕ → List ℕ → Reading
-read_record cs room = if ltb (length room) (length (data_read (reading cs) cs)) then Refused 9 else reading cs
+read_record cs room = if ltb (length room) (length (data_read (reading cs) cs)) then Err TooShort else reading cs
 
 -- "refusing, it leaves its room unwritten, and otherwise the room past its answer"
 unfoldable pub room_read : List ℕ → List ℕ → List ℕ
@@ -47,17 +55,16 @@ room_read cs room =
     if ltb (length room) (length (data_read (reading cs) cs)) then room else
     overlay 0 (data_read (reading cs) cs) room
 
--- the paper's number of each answer: 0 where the record is taken, and 1 for `X`, which has no number; no record is refused with 1
+-- the number of each answer: 0 where the record is taken, and else the error's
 abbrev pub reading_number : Reading → ℕ
-reading_number (Taken f) = 0
-reading_number WrongChecksum = 1
-reading_number (Refused k) = k
+reading_number (Ok f) = 0
+reading_number (Err e) = read_error_number e
 
 -- ---- the steps of the code
 
 -- what the pairs after the mark come to, as the code adds them up
-abbrev pub pairs_read : List ℕ → Pairs
-pairs_read cs = if all_digits (drop 1 cs) then Total (sum (bytes_of cs) % 256) else NoDigit
+abbrev pub pairs_read : List ℕ → Option ℕ
+pairs_read cs = if all_digits (drop 1 cs) then Some (sum (bytes_of cs) % 256) else None
 
 -- and what they leave in a memory that was lent for their bytes, where each character is a digit
 abbrev pub Held : List ℕ → List ℕ → List ℕ → Type 0

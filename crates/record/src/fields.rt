@@ -6,11 +6,3 @@ pub struct Fields {
     pub kind: u8,
     pub length: usize,
 }
-
-// What the reader answers: the fields, that the checksum is wrong, or the number of its refusal.
-#[derive(Clone, Copy)]
-pub enum Reading {
-    Taken(Fields),
-    WrongChecksum,
-    Refused(u8),
-}

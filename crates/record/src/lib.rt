@@ -1,14 +1,16 @@
 // The records of the serial plug as definitions: what their characters are worth, the loader's reader and the host's writer, and what is
 // proved over them. The code is crates/digits', crates/recordreader's and crates/recordwriter's.
+//
+// No public function has a `requires`: each says what it answers for every input.
 #![tactic(auto)]
 
 mod fields;
 mod reader;
 mod writer;
 
-pub use fields::{Fields, Reading};
-pub use reader::Pairs;
-pub use writer::Written;
+pub use fields::Fields;
+pub use reader::ReadError;
+pub use writer::WriteError;
 
 // How many bytes stand before the data and after it, and the most that a record's data has.
 pub const HEAD_SIZE: usize = 4;
