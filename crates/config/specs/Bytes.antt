@@ -1,7 +1,7 @@
 -- 01's eight bytes, its fixed bytes and what is written and erased of them, index by index in numbers. Proved in proofs/BytesHold.antt.
-use Rattle.std.specs.Prelude.{◌≡◌, true, false, [], ◌∷◌, ℕ, ◌+◌, ◌*◌, ◌≤◌, ◌<◌}
+use Rattle.std.specs.Prelude.{◌≡◌, Some, None, true, false, [], ◌∷◌, ℕ, ◌+◌, ◌*◌, ◌≤◌, ◌<◌}
 use Rattle.words.specs.Words.{among}
-use Rattle.config.specs.Config.{Config, delivered_config, ssb_index, writable, readable, version, Value, Unknown, byte_read, with_byte, with_hsb, erased_config}
+use Rattle.config.specs.Config.{Config, delivered_config, ssb_index, writable, readable, version, byte_read, with_byte, with_hsb, erased_config}
 
 -- BSB, SBV, P1_CF, P3_CF, P4_CF, SSB, EB and HSB
 abbrev pub config : ℕ → ℕ → ℕ → ℕ → ℕ → ℕ → ℕ → ℕ → Config
@@ -9,7 +9,7 @@ config b v p1 p3 p4 s e h = record { bsb = b; sbv = v; p1cf = p1; p3cf = p3; p4c
 
 -- the byte of an index; and what a write of x there leaves
 abbrev pub Reads : ℕ → (Config → ℕ) → Type 0
-Reads i value = (c : Config) → byte_read i c ≡ Value (value c)
+Reads i value = (c : Config) → byte_read i c ≡ Some (value c)
 
 abbrev pub Writes : ℕ → (ℕ → ℕ → ℕ → ℕ → ℕ → ℕ → ℕ → ℕ → ℕ → Config) → Type 0
 Writes i after = (x b v p1 p3 p4 s e h : ℕ) → with_byte i x (config b v p1 p3 p4 s e h) ≡ after x b v p1 p3 p4 s e h
@@ -34,7 +34,7 @@ pub record Bytes : Type 0 where
   pub readable_00h_06h : (i : ℕ) → i ≤ 0x06 → readable i ≡ true
   pub readable_fixed : (i : ℕ) → among i (0x30 ∷ 0x31 ∷ 0x60 ∷ 0x61 ∷ []) ≡ true → readable i ≡ true
   pub not_readable : (i : ℕ) → 0x06 < i → among i (0x30 ∷ 0x31 ∷ 0x60 ∷ 0x61 ∷ []) ≡ false → readable i ≡ false
-  pub no_other_read : (i : ℕ) (c : Config) → 0x06 < i → among i (0x30 ∷ 0x31 ∷ 0x60 ∷ 0x61 ∷ []) ≡ false → byte_read i c ≡ Unknown
+  pub no_other_read : (i : ℕ) (c : Config) → 0x06 < i → among i (0x30 ∷ 0x31 ∷ 0x60 ∷ 0x61 ∷ []) ≡ false → byte_read i c ≡ None
   -- "bootloader version 12h"
   pub version_12h : version ≡ 0x12
   -- "index 00h-06h, value": "write configuration byte"; the other bytes stay

@@ -1,9 +1,7 @@
 -- The paper's configuration bytes and fixed bytes. Assumes nothing: these are definitions and a statement.
-use Rattle.std.specs.Prelude.{if◌then◌else◌, ◌≡◌, Bool, ◌||◌, List, [], ◌∷◌, ℕ, ◌+◌, ◌*◌, ◌/◌, ◌%◌, ◌<◌, eqb, leb}
+use Rattle.std.specs.Prelude.{if◌then◌else◌, ◌≡◌, Option, Some, None, Bool, ◌||◌, List, [], ◌∷◌, ℕ, ◌+◌, ◌*◌, ◌/◌, ◌%◌, ◌<◌, eqb, leb}
 use Rattle.words.specs.Words.{among}
 pub use Rattle.config.specs.declared.config.Config.{Config}
-pub use Rattle.config.specs.declared.config.ByteRead.{ByteRead}
-pub use Rattle.config.specs.declared.config.ByteRead.TheVariants.{Value, Unknown}
 
 -- "BSB FFh, SBV FCh, P1_CF FEh, P3_CF FFh, P4_CF FFh, SSB FFh, EB FFh (index 00h to 06h), and HSB BBh"
 abbrev pub delivered_config : Config
@@ -44,14 +42,14 @@ config_byte i c =
     if eqb i 0x31 then 0xD7 else
     if eqb i 0x60 then 0xF7 else 0xDF
 
--- the byte of any index
-unfoldable pub byte_read : ℕ → Config → ByteRead
-byte_read i c = if readable i then Value (config_byte i c) else Unknown
+-- the byte of any index, if there is one
+unfoldable pub byte_read : ℕ → Config → Option ℕ
+byte_read i c = if readable i then Some (config_byte i c) else None
 
 -- the bytes that each answer gives: the one read, or none of an index that the table has not
-abbrev pub bytes_read : ByteRead → List ℕ
-bytes_read (Value v) = v ∷ []
-bytes_read Unknown = []
+abbrev pub bytes_read : Option ℕ → List ℕ
+bytes_read (Some v) = v ∷ []
+bytes_read None = []
 
 -- the same, one by one, in the paper's numbers: "index 00h-06h, 30h, 31h, 60h, 61h", and "manufacturer 58h, family D7h, product F7h,
 -- revision DFh"

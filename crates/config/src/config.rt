@@ -42,40 +42,27 @@ pub fn is_writable(index: u8) -> bool
 pub fn is_readable(index: u8) -> bool
     ensures { result ≡ readable index }
 {
-    if is_writable(index) {
-        return true;
-    }
-    match index {
-        0x30 | 0x31 | 0x60 | 0x61 => true,
-        _ => false,
-    }
+    is_writable(index) || matches!(index, 0x30 | 0x31 | 0x60 | 0x61)
 }
 
-// A byte that was read by its index.
-#[derive(Clone, Copy)]
-pub enum ByteRead {
-    Value(u8),
-    Unknown,
-}
-
-// The byte of an index: 00h to 06h, or one of the fixed bytes.
+// The byte of an index: 00h to 06h, or one of the fixed bytes; any other has none.
 #[tactic(auto, unfolding(crate::specs::Config::byte_read))]
-pub fn read_byte(config: Config, index: u8) -> ByteRead
+pub fn read_byte(config: Config, index: u8) -> Option<u8>
     ensures { result ≡ byte_read index config }
 {
     match index {
-        0x00 => ByteRead::Value(config.bsb),
-        0x01 => ByteRead::Value(config.sbv),
-        0x02 => ByteRead::Value(config.p1cf),
-        0x03 => ByteRead::Value(config.p3cf),
-        0x04 => ByteRead::Value(config.p4cf),
-        0x05 => ByteRead::Value(config.ssb),
-        0x06 => ByteRead::Value(config.eb),
-        0x30 => ByteRead::Value(0x58),
-        0x31 => ByteRead::Value(0xD7),
-        0x60 => ByteRead::Value(0xF7),
-        0x61 => ByteRead::Value(0xDF),
-        _ => ByteRead::Unknown,
+        0x00 => Some(config.bsb),
+        0x01 => Some(config.sbv),
+        0x02 => Some(config.p1cf),
+        0x03 => Some(config.p3cf),
+        0x04 => Some(config.p4cf),
+        0x05 => Some(config.ssb),
+        0x06 => Some(config.eb),
+        0x30 => Some(0x58),
+        0x31 => Some(0xD7),
+        0x60 => Some(0xF7),
+        0x61 => Some(0xDF),
+        _ => None,
     }
 }
 

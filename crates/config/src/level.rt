@@ -4,7 +4,7 @@ ghost use Rattle.config.specs.Level.{ssb_level, level};
 
 use crate::config::Config;
 
-#[derive(Clone, Copy)]
+#[derive(Clone, Copy, Debug, PartialEq, Eq, PartialOrd, Ord)]
 pub enum Level {
     L0,
     L1,

@@ -7,7 +7,7 @@ mod config;
 mod level;
 
 pub use config::{
-    ByteRead, Config, config_after_erase, delivered, is_readable, is_writable, read_byte,
-    write_byte, write_hsb,
+    Config, config_after_erase, delivered, is_readable, is_writable, read_byte, write_byte,
+    write_hsb,
 };
 pub use level::{Level, level_of, ssb_level};

@@ -11,7 +11,7 @@ ghost use Rattle.rules.specs.Answered.{Answered, Acceptable, accepted_answer};
 
 use blank::Used;
 use command::{Command, Parts};
-use config::{ByteRead, Config};
+use config::Config;
 use memory::FlashAddress;
 use rules::{Answer, Outcome, Pending, Session, StartKind};
 
@@ -57,10 +57,7 @@ fn byte_of(config: Config, index: u8) -> u8
     requires { readable index ≡ true }
     ensures { result ≡ config_byte index config }
 {
-    match config::read_byte(config, index) {
-        ByteRead::Value(value) => value,
-        ByteRead::Unknown => 0,
-    }
+    config::read_byte(config, index).unwrap()
 }
 
 // The bytes of a program transfer, of either memory: those between two places of the data.

@@ -2,7 +2,7 @@
 ghost use Rattle.std.specs.Prelude.{◌≡◌};
 ghost use Rattle.worked.specs.OddBoard.{odd_config, Asked};
 
-use config::{ByteRead, Config};
+use config::Config;
 use memory::{FlashAddress, Range};
 use rules::{Answer, Pending, Session};
 
@@ -47,10 +47,7 @@ fn asked(session: Session, setup: &[u8], sent: &[u8]) -> Answer
 // SSB is read as it is stored.
 #[tactic(auto, unfolding(config::specs::Config::byte_read))]
 fn read_ssb() {
-    let ByteRead::Value(ssb) = config::read_byte(odd(), 0x05) else {
-        return;
-    };
-    check::expect(ssb == 0x00);
+    check::expect(config::read_byte(odd(), 0x05) == Some(0x00));
 }
 
 // A write of FCh to SSB gets 03h, and UPLOAD of a byte of flash that is pending stalls.
