@@ -52,5 +52,6 @@ printed = record {
   room_enough = λ at text room h. rw (le-leb (at + length text) (length room) h);
   room_laid = refl;
   room_short = λ at text room h. rw (lt-leb (at + length text) (length room) h);
+  room_short_number = refl;
   room_kept = refl;
 }

@@ -1,9 +1,9 @@
 -- The words, numbers and lines that are printed, character by character. Proved in proofs/PrintedHolds.antt.
-use Rattle.std.specs.Prelude.{◌≡◌, List, [], ◌∷◌, ℕ, ◌+◌, ◌≤◌, ◌<◌, length}
+use Rattle.std.specs.Prelude.{◌≡◌, List, [], ◌∷◌, ℕ, ◌+◌, ◌≤◌, ◌<◌, length, Ok, Err}
 use Rattle.words.specs.Words.{laid}
 use Rattle.lines.specs.Text.{ascii, decimal, hex_bytes}
 use Rattle.lines.specs.Line.{Done, Stall, Start, Answered, Reset, Refused, word_text, request_line, job_line, refused_line, records_line, head_line}
-use Rattle.lines.specs.Room.{put, Upto, Unwritten}
+use Rattle.lines.specs.Room.{put, too_short, too_short_number}
 
 pub record Printed : Type 0 where
   -- a text is the numbers of its characters
@@ -34,7 +34,8 @@ pub record Printed : Type 0 where
   pub records : records_line 12 ≡ ascii "records 12\n"
   pub head : head_line 10 Answered 2 ≡ ascii "10 answered 2 "
   -- "room too short": 9, and the room stays; otherwise the place after the text, and the room before it and past it stays
-  pub room_enough : (at : ℕ) (text room : List ℕ) → at + length text ≤ length room → put at text room ≡ Upto (at + length text)
+  pub room_enough : (at : ℕ) (text room : List ℕ) → at + length text ≤ length room → put at text room ≡ Ok (at + length text)
   pub room_laid : laid 2 (ascii "ab") (1 ∷ 2 ∷ 3 ∷ 4 ∷ 5 ∷ []) ≡ 1 ∷ 2 ∷ 0x61 ∷ 0x62 ∷ 5 ∷ []
-  pub room_short : (at : ℕ) (text room : List ℕ) → length room < at + length text → put at text room ≡ Unwritten 9
+  pub room_short : (at : ℕ) (text room : List ℕ) → length room < at + length text → put at text room ≡ Err too_short
+  pub room_short_number : too_short_number too_short ≡ 9
   pub room_kept : laid 4 (ascii "ab") (1 ∷ 2 ∷ 3 ∷ 4 ∷ 5 ∷ []) ≡ 1 ∷ 2 ∷ 3 ∷ 4 ∷ 5 ∷ []

@@ -1,29 +1,36 @@
 -- Text put into a room. Assumes nothing: these are definitions and a statement.
-use Rattle.std.specs.Prelude.{if◌then◌else◌, ◌≡◌, List, ℕ, ◌+◌, ◌≤◌, ◌<◌, length}
+use Rattle.std.specs.Prelude.{if◌then◌else◌, ◌≡◌, List, ℕ, ◌+◌, ◌≤◌, ◌<◌, length, Result, Ok, Err}
 use Rattle.words.specs.Words.{fits, overlay, laid}
 use Rattle.lines.specs.Text.{decimal}
 use Rattle.lines.specs.Line.{Word, word_text, reply_text}
-pub use Rattle.lines.specs.declared.line.Put.{Put}
-pub use Rattle.lines.specs.declared.line.Put.TheVariants.{Upto, Unwritten}
+pub use Rattle.lines.specs.declared.line.TooShort.{TooShort}
+
+-- the one error of a line's writer
+abbrev pub too_short : TooShort
+too_short = record {}
+
+-- its number: 9
+abbrev pub too_short_number : TooShort → ℕ
+too_short_number e = 9
 
 -- 9: "room too short"; "refusing, it leaves its room unwritten, and otherwise the room past its answer. Later tools treat their room
 -- alike.": the answer for a text from a place on is the place after it. What the room then holds is `laid` of crates/words
-unfoldable pub put : ℕ → List ℕ → List ℕ → Put
-put at text room = if fits at text room then Upto (at + length text) else Unwritten 9
+unfoldable pub put : ℕ → List ℕ → List ℕ → Result ℕ TooShort
+put at text room = if fits at text room then Ok (at + length text) else Err too_short
 
 -- the number of each of its cases, 0 where the text is written and else the refusal's; and the place after the text
-abbrev pub put_number : Put → ℕ
-put_number (Upto end) = 0
-put_number (Unwritten k) = k
+abbrev pub put_number : Result ℕ TooShort → ℕ
+put_number (Ok end) = 0
+put_number (Err e) = too_short_number e
 
-abbrev pub put_end : Put → ℕ
-put_end (Upto end) = end
-put_end (Unwritten k) = 0
+abbrev pub put_end : Result ℕ TooShort → ℕ
+put_end (Ok end) = end
+put_end (Err e) = 0
 
 -- the same sentences in the paper's numbers, of any text and room
 pub record PutNumbered : Type 0 where
-  pub written_0 : (end : ℕ) → (put_number (Upto end) ≡ 0) × (put_end (Upto end) ≡ end)
-  pub refused_k : (k : ℕ) → (put_number (Unwritten k) ≡ k) × (put_end (Unwritten k) ≡ 0)
+  pub written_0 : (end : ℕ) → (put_number (Ok end) ≡ 0) × (put_end (Ok end) ≡ end)
+  pub refused_k : (e : TooShort) → (put_number (Err e) ≡ 9) × (put_end (Err e) ≡ 0)
   pub number_written : (at : ℕ) (text room : List ℕ) → at + length text ≤ length room → put_number (put at text room) ≡ 0
   pub end_written : (at : ℕ) (text room : List ℕ) → at + length text ≤ length room → put_end (put at text room) ≡ at + length text
   pub number_refused : (at : ℕ) (text room : List ℕ) → length room < at + length text → put_number (put at text room) ≡ 9

@@ -15,7 +15,6 @@ use Rattle.words.specs.Words.{laid}
 use Rattle.words.proofs.WordsLaws.{length_overlay}
 use Rattle.lines.specs.Line.{records_line, refused_line, most_refused_line}
 use Rattle.lines.specs.Room.{put, put_end, Stands}
-use Rattle.lines.specs.declared.line.Put.{Put}
 use Rattle.lines.proofs.LineLaws.{records_line_le, refused_line_le}
 use Rattle.lines.proofs.RoomLaws.{put_stands}
 use Rattle.listing.specs.Records.{Span, span, most_file, records_from, records_of, record_count, first_met}
@@ -84,7 +83,7 @@ pub record SoFar (file : List ℕ) (number : ℕ) (p : Progress) (f : List ℕ) 
   pub number_small : number ≤ suc p.at
 
 -- the first piece, put at the front of a room
-module _ (file room₀ room : List ℕ) (q : Put) (end : ℕ) (fits : most_refused_line ≤ length room₀)
+module _ (file room₀ room : List ℕ) (q : _) (end : ℕ) (fits : most_refused_line ≤ length room₀)
     (l : (q ≡ put 0 (first_text file) room₀) × (room ≡ laid 0 (first_text file) room₀)) (d : end ≡ put_end q) where
   first_stands : Stands 0 (first_text file) room₀ end room
   first_stands = put_stands 0 end (first_text file) room₀ room q (omega (arith, first_text_le file, fits)) l.0 l.1 d

@@ -11,7 +11,6 @@ use Rattle.words.specs.Words.{overlay, laid}
 use Rattle.words.proofs.WordsLaws.{overlay_front}
 use Rattle.lines.specs.Line.{head_line}
 use Rattle.lines.specs.Room.{put, put_end, Stands}
-use Rattle.lines.specs.declared.line.Put.{Put}
 use Rattle.lines.specs.declared.line.Word.{Word}
 use Rattle.lines.proofs.LineLaws.{head_line_le}
 use Rattle.lines.proofs.RoomLaws.{put_stands}
@@ -49,7 +48,7 @@ answer_text_le (StartedAt a) characters h = omega arith
 answer_text_le (Refused n) characters h = omega arith
 
 -- what stands before the answer: it was put at the front of a room for every text
-module _ (number pages end : ℕ) (w : Word) (q : Put) (room₀ room₁ : List ℕ) (fits : most_text ≤ length room₀)
+module _ (number pages end : ℕ) (w : Word) (q : _) (room₀ room₁ : List ℕ) (fits : most_text ≤ length room₀)
     (l : (q ≡ put 0 (head_line number w pages) room₀) × (room₁ ≡ laid 0 (head_line number w pages) room₀)) (d : end ≡ put_end q) where
   pub head_stands : Stands 0 (head_line number w pages) room₀ end room₁
   head_stands = put_stands 0 end _ room₀ room₁ q (omega (arith, head_line_le number w pages, fits)) l.0 l.1 d

@@ -7,7 +7,7 @@ ghost use Rattle.plugrun.specs.Written.{start_config, first_text};
 ghost use Rattle.plugrun.specs.Turn.{start_place, start_progress};
 
 use crate::turn::Progress;
-use lines::Put;
+use lines::TooShort;
 use listing::{MOST_FILE, count_records, starts_erased};
 use plug::{Config, FLASH_SIZE};
 use plugtables::{delivered, erased};
@@ -59,7 +59,7 @@ pub fn start(file: &[u8]) -> Progress
 // holds, or that it is too long. Refuses a room that is too short with 9; then the room stays as it was, and otherwise the room past
 // the line does.
 #[tactic(auto, unfolding(crate::specs::Written::first_text))]
-pub fn first_line(file: &[u8], room: &mut [u8]) -> Put
+pub fn first_line(file: &[u8], room: &mut [u8]) -> Result<usize, TooShort>
     ensures value { result ≡ put 0 (first_text file.now) room.old }
     ensures room_after { room.new ≡ laid 0 (first_text file.now) room.old }
 {

@@ -6,7 +6,7 @@ ghost use Rattle.lines.specs.Room.{put, head_size, Stands};
 
 use crate::line::{put_count, put_word, word_size};
 use crate::text::{digits, put_number};
-use lines::{Put, TOO_SHORT, Word, fits};
+use lines::{TooShort, Word, fits};
 
 // How many bytes never vary in number: of the count's line its word, a space and the line feed, of a head three spaces.
 const RECORDS_REST: usize = 9;
@@ -24,24 +24,26 @@ fn put_head(room: &mut [u8], at: usize, number: usize, word: Word, pages: usize)
 
 // Writes the line that says how many records a file holds into the room from a place on, and answers the place after it. Refuses a
 // room that is too short with 9; then the room stays as it was, and otherwise the room before the line and past it does.
-pub fn records_line(count: usize, room: &mut [u8], at: usize) -> Put
+pub fn records_line(count: usize, room: &mut [u8], at: usize) -> Result<usize, TooShort>
     ensures value { result ≡ put at (records_line count) room.old }
     ensures room_after { room.new ≡ laid at (records_line count) room.old }
 {
-    if !fits(RECORDS_REST + digits(count), 0, room.len(), at) {
-        return Put::Unwritten(TOO_SHORT);
-    }
-    Put::Upto(put_count(room, at, b"records ", count))
+    fits(RECORDS_REST + digits(count), 0, room.len(), at)?;
+    Ok(put_count(room, at, b"records ", count))
 }
 
 // The same of what stands before a record's answer: its number, the word for what came of it, and how many pages were stored.
-pub fn head_line(number: usize, word: Word, pages: usize, room: &mut [u8], at: usize) -> Put
+pub fn head_line(
+    number: usize,
+    word: Word,
+    pages: usize,
+    room: &mut [u8],
+    at: usize,
+) -> Result<usize, TooShort>
     ensures value { result ≡ put at (head_line number word pages) room.old }
     ensures room_after { room.new ≡ laid at (head_line number word pages) room.old }
 {
     let size = HEAD_REST + digits(number) + word_size(word) + digits(pages);
-    if !fits(size, 0, room.len(), at) {
-        return Put::Unwritten(TOO_SHORT);
-    }
-    Put::Upto(put_head(room, at, number, word, pages))
+    fits(size, 0, room.len(), at)?;
+    Ok(put_head(room, at, number, word, pages))
 }

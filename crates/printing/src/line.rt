@@ -6,7 +6,7 @@ ghost use Rattle.lines.specs.Line.{word_text, reply_text, space, request_line, c
 ghost use Rattle.lines.specs.Room.{put, request_size, refused_size, Stands};
 
 use crate::text::{digits, put_byte, put_number, put_text};
-use lines::{Put, TOO_SHORT, Word, end_of, fits, hex_text};
+use lines::{TooShort, Word, end_of, fits, hex_text};
 
 // How many bytes of a line never vary in number: of a request's line five spaces, two hex digits and the line feed, and of the others
 // their words, spaces and the line feed.
@@ -130,41 +130,35 @@ pub fn request_line(
     reply: &[u8],
     room: &mut [u8],
     at: usize,
-) -> Put
+) -> Result<usize, TooShort>
     ensures value { result ≡ put at (request_line number word state status pages reply.now) room.old }
     ensures room_after { room.new ≡ laid at (request_line number word state status pages reply.now) room.old }
 {
     let numbers = digits(number) + digits(state as usize) + digits(pages);
     let size = REQUEST_REST + numbers + word_size(word) + dash_size(reply);
-    if !fits(size, reply.len(), room.len(), at) {
-        return Put::Unwritten(TOO_SHORT);
-    }
-    Put::Upto(put_request(room, at, number, word, state, status, pages, reply))
+    fits(size, reply.len(), room.len(), at)?;
+    Ok(put_request(room, at, number, word, state, status, pages, reply))
 }
 
 // The same of the line that says how many requests a job holds.
-pub fn job_line(count: usize, room: &mut [u8], at: usize) -> Put
+pub fn job_line(count: usize, room: &mut [u8], at: usize) -> Result<usize, TooShort>
     ensures value { result ≡ put at (job_line count) room.old }
     ensures room_after { room.new ≡ laid at (job_line count) room.old }
 {
-    if !fits(JOB_REST + digits(count), 0, room.len(), at) {
-        return Put::Unwritten(TOO_SHORT);
-    }
-    Put::Upto(put_count(room, at, b"job ", count))
+    fits(JOB_REST + digits(count), 0, room.len(), at)?;
+    Ok(put_count(room, at, b"job ", count))
 }
 
 // The same of the line that says why a job is refused, and where.
-pub fn refused_line(number: u8, place: usize, room: &mut [u8], at: usize) -> Put
+pub fn refused_line(number: u8, place: usize, room: &mut [u8], at: usize) -> Result<usize, TooShort>
     ensures value { result ≡ put at (refused_line number place) room.old }
     ensures room_after { room.new ≡ laid at (refused_line number place) room.old }
 {
-    if !fits(
+    fits(
         REFUSED_REST + digits(number as usize) + digits(place),
         0,
         room.len(),
         at,
-    ) {
-        return Put::Unwritten(TOO_SHORT);
-    }
-    Put::Upto(put_refused(room, at, number, place))
+    )?;
+    Ok(put_refused(room, at, number, place))
 }

@@ -19,7 +19,6 @@ use Rattle.job.proofs.VerdictLaws.{file_accepted}
 use Rattle.job.proofs.WalkLaws.{steps, no_more, walk_job}
 use Rattle.lines.specs.Line.{request_line, job_line, refused_line, most_line, most_job_line}
 use Rattle.lines.specs.Room.{put, put_end, Stands}
-use Rattle.lines.specs.declared.line.Put.{Put}
 use Rattle.lines.specs.declared.line.Word.{Word}
 use Rattle.lines.proofs.LineLaws.{request_line_le}
 use Rattle.lines.proofs.RoomLaws.{none_stands, joined, put_stands}
@@ -58,7 +57,7 @@ module _ (file : List ℕ) (start size : ℕ) (p : Placed file start size) where
   stepped_asked b n a f e reply reply₀ h s = rw (setup_part, data_part, h) at s
 
 -- a request's line fits
-pub line_stands : (number place end : ℕ) (a : Answer) (w : Word) (reply room₀ room : List ℕ) (q : Put)
+pub line_stands : (number place end : ℕ) (a : Answer) (w : Word) (reply room₀ room : List ℕ) (q : _)
     → (a.length ≤ length reply) × (length reply ≡ reply_size) → place + most_line ≤ length room₀ → w ≡ word_of a.outcome
     → let text = request_line number w a.session.state a.session.status a.pages (take a.length reply) in (q ≡ put place text room₀) ×
     (room ≡ laid place text room₀)
@@ -159,7 +158,7 @@ module _ (file f₀ e₀ room₀ : List ℕ) (place : ℕ) (f e reply room : Lis
 -- ---- a whole job
 
 -- a line at the start of a room for every job
-pub front_stands : (end most : ℕ) (text room₀ room : List ℕ) (q : Put) → length text ≤ most → most ≤ most_output → most_output ≤ length room₀
+pub front_stands : (end most : ℕ) (text room₀ room : List ℕ) (q : _) → length text ≤ most → most ≤ most_output → most_output ≤ length room₀
     → (q ≡ put 0 text room₀) × (room ≡ laid 0 text room₀) → end ≡ put_end q
     → Stands 0 text room₀ end room × (end ≤ most)
 front_stands end most text room₀ room q h k m l d =

@@ -1,15 +1,15 @@
 -- `printing::line::refused_line` meets its contract.
 -- Assumes nothing.
-use Rattle.std.proofs.Common.{◌∙◌, arith, refl}
+use Rattle.std.proofs.Common.{◌∙◌, arith}
 use Rattle.lines.proofs.RoomLaws.{written, not_written}
 use Rattle.lines.proofs.LineLaws.{length_refused_line}
 use Rattle.printing.proofs.line.refused_line.Goals as goal
 
-pub returns-then-not-fits-clause-value : goal.returns-then-not-fits-clause-value
-returns-then-not-fits-clause-value c = (not_written _ _ _ _ _ c.if-not-fits.ensures refl (length_refused_line _ _ ∙ omega arith)).0
+pub returns-in_err-fits-clause-value : goal.returns-in_err-fits-clause-value
+returns-in_err-fits-clause-value c = (not_written _ _ _ _ _ c.from_residual.ensures.0 c.in_err-fits.ensures (length_refused_line _ _ ∙ omega arith)).0
 
-pub returns-then-not-fits-clause-room_after : goal.returns-then-not-fits-clause-room_after
-returns-then-not-fits-clause-room_after c = (not_written _ _ _ _ _ c.if-not-fits.ensures refl (length_refused_line _ _ ∙ omega arith)).1
+pub returns-in_err-fits-clause-room_after : goal.returns-in_err-fits-clause-room_after
+returns-in_err-fits-clause-room_after c = (not_written _ _ _ _ _ c.from_residual.ensures.0 c.in_err-fits.ensures (length_refused_line _ _ ∙ omega arith)).1
 
 pub returns-clause-value : goal.returns-clause-value
 returns-clause-value c = (written c.put_refused.ensures).0
