@@ -2,8 +2,7 @@
 use Rattle.std.specs.Prelude.{if◌then◌else◌, List, [], ◌∷◌, ◌↔◌, ◌≡◌, ℕ, suc, ◌≤◌, ◌<◌, max, eqb, length, get_or, Option, None, Some}
 use Rattle.words.specs.Words.{part}
 use Rattle.memory.specs.Memory.{flash_address}
-pub use Rattle.blank.specs.declared.search.Used.{Used}
-pub use Rattle.blank.specs.declared.search.Used.TheVariants.{At, Nowhere}
+use Rattle.memory.specs.declared.address.FlashAddress.{FlashAddress}
 
 -- the address of the first byte that is not FFh, of bytes that stand from address a on
 abbrev pub first_used : ℕ → List ℕ → Option ℕ
@@ -35,18 +34,18 @@ pub record Passed (a stop r : ℕ) (f : List ℕ) : Type 0 where
   pub blank : AllBlank a r f
 
 -- the finding as the search answers it
-abbrev pub used_of : Option ℕ → Used
-used_of None = Nowhere
-used_of (Some x) = At (flash_address x)
+abbrev pub used_of : Option ℕ → Option FlashAddress
+used_of None = None
+used_of (Some x) = Some (flash_address x)
 
 -- "A blank check that meets a byte not FFh sets 05h", and "An accepted command sets status 00h": the status of each finding
-abbrev pub used_status : Used → ℕ
-used_status (At a) = 0x05
-used_status Nowhere = 0x00
+abbrev pub used_status : Option FlashAddress → ℕ
+used_status (Some a) = 0x05
+used_status None = 0x00
 
 -- the same in numbers, of every finding
 pub record FindingsTold : Type 0 where
-  pub found : (x : ℕ) → used_of (Some x) ≡ At (flash_address x)
+  pub found : (x : ℕ) → used_of (Some x) ≡ Some (flash_address x)
   pub found_05h : (x : ℕ) → used_status (used_of (Some x)) ≡ 0x05
-  pub nothing : used_of None ≡ Nowhere
+  pub nothing : used_of None ≡ None
   pub nothing_00h : used_status (used_of None) ≡ 0x00

@@ -5,4 +5,4 @@
 
 mod search;
 
-pub use search::{Used, first_used};
+pub use search::first_used;

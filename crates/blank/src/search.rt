@@ -11,13 +11,6 @@ const BLANK: u8 = 0xFF;
 // The place of a byte that is FFh: past all places of a page, which are 0 to 127.
 const NO_PLACE: u8 = 255;
 
-// What the search finds: the first byte that is not FFh, or none.
-#[derive(Clone, Copy)]
-pub enum Used {
-    At(FlashAddress),
-    Nowhere,
-}
-
 // Searches one page, or the part of it from `from` on before `to`: where the first byte stands that is not FFh, or `to` if all are FFh.
 // A byte that is not FFh has a place, counted from `from`, and the lowest place is kept. The compiler can take many bytes at a time,
 // because no byte ends the loop early and a place is a byte too. Where no place was kept, `from` + NO_PLACE lies past `to`.
@@ -43,9 +36,9 @@ fn used_in_page(flash: &[u8], from: usize, to: usize) -> usize
     words::least(from + (lowest as usize), to)
 }
 
-// The first byte that is not FFh, from a start to an end, both in the range. What lies past the flash's own end is not looked at.
+// Where the first byte stands that is not FFh, from a start to an end, both in the range, or None if all are FFh. What lies past the flash's own end is not looked at.
 // Searches page after page: `from` is where the search stands, and `to` is where it leaves the page, or the range.
-pub fn first_used(flash: &[u8], start: FlashAddress, end: FlashAddress) -> Used
+pub fn first_used(flash: &[u8], start: FlashAddress, end: FlashAddress) -> Option<FlashAddress>
     ensures { result ≡ used_of (used_in start.0 end.0 flash.now) }
 {
     let stop = words::least((end.0 as usize) + 1, flash.len());
@@ -55,9 +48,9 @@ pub fn first_used(flash: &[u8], start: FlashAddress, end: FlashAddress) -> Used
         let to = words::least(PAGE_SIZE * (page.0 as usize + 1), stop);
         let found = used_in_page(flash, from, to);
         if found < to {
-            return Used::At(FlashAddress(found as u16));
+            return Some(FlashAddress(found as u16));
         }
         from = to;
     }
-    Used::Nowhere
+    None
 }

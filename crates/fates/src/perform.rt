@@ -9,7 +9,6 @@ ghost use Rattle.rules.specs.Result.{board as board_of, answer};
 ghost use Rattle.rules.specs.Commands.{perform as perform_of, accept, blank_effect};
 ghost use Rattle.rules.specs.Answered.{Answered, Acceptable, accepted_answer};
 
-use blank::Used;
 use command::{Command, Parts};
 use config::Config;
 use memory::FlashAddress;
@@ -77,8 +76,8 @@ fn blank_check(config: Config, start: FlashAddress, end: FlashAddress, flash: &[
         result ≡ answer (accept (Command.BlankCheck start end) (blank_effect config found)) }
 {
     match blank::first_used(flash, start, end) {
-        Used::At(address) => accepted(config, 0x05, Pending::BlankReport(address), 0),
-        Used::Nowhere => accepted(config, 0x00, Pending::Nothing, 0),
+        Some(address) => accepted(config, 0x05, Pending::BlankReport(address), 0),
+        None => accepted(config, 0x00, Pending::Nothing, 0),
     }
 }
 

@@ -8,7 +8,6 @@ ghost use Rattle.plug.specs.Step.{board, told, in_room, perform as done_by};
 ghost use Rattle.plug.specs.Answered.{Replied, Stepped};
 ghost use Rattle.plugcommands.specs.Performed.{performed};
 
-use blank::Used;
 use memory::{FlashAddress, Page};
 use plug::{Answer, Block, Command, Config, Outcome, Setting};
 use plugtables::{byte_value, config_after_erase, with_setting};
@@ -102,8 +101,8 @@ fn blank_check(
         Replied (in_room config (length room.old) said) result room.new room.old }
 {
     match blank::first_used(flash, start, end) {
-        Used::At(address) => say_address(config, address, room),
-        Used::Nowhere => say(config, b".\r\n", room),
+        Some(address) => say_address(config, address, room),
+        None => say(config, b".\r\n", room),
     }
 }
 

@@ -3,8 +3,6 @@ use Rattle.std.specs.Prelude.{if◌then◌else◌, Bool, not, List, [], ◌∷�
 use Rattle.memory.specs.Memory.{flash_address}
 use Rattle.memory.specs.Pages.{Store, program_stores, block_stores, chip_stores}
 use Rattle.blank.specs.Blank.{used_in, used_status}
-use Rattle.blank.specs.declared.search.Used.{Used}
-use Rattle.blank.specs.declared.search.Used.TheVariants.{At, Nowhere}
 use Rattle.config.specs.Config.{version, config_byte, with_byte, with_hsb, erased_config}
 use Rattle.config.specs.Level.{level}
 use Rattle.memory.specs.declared.address.FlashAddress.{FlashAddress}
@@ -61,13 +59,13 @@ abbrev pub program_eeprom : Board → EepromAddress → EepromAddress → List �
 program_eeprom b a e d = patches b.config (record { at = a; bytes = body_of a.0 e.0 d } ∷ [])
 
 -- the status of what a blank check finds, and what it leaves pending
-abbrev pub finds : Config → Used → Pending → Effect
+abbrev pub finds : Config → Option FlashAddress → Pending → Effect
 finds c u p = record { status = used_status u; pending = p; config = c; stored = []; patched = [] }
 
 -- "A blank check that meets a byte not FFh sets 05h with state 3 and the first such address pending."
 abbrev pub blank_effect : Config → Option ℕ → Effect
-blank_effect c None = finds c Nowhere Nothing
-blank_effect c (Some x) = finds c (At (flash_address x)) (BlankReport (flash_address x))
+blank_effect c None = finds c None Nothing
+blank_effect c (Some x) = finds c (Some (flash_address x)) (BlankReport (flash_address x))
 
 -- each row of the table; d the whole data
 unfoldable pub perform : Board → Command → List ℕ → Effect
