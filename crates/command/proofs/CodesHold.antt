@@ -7,7 +7,7 @@ use Prim.Native.Nat.{ℕ, ◌+◌, ◌*◌, ◌<◌}
 use native.Mathlib.Omega.{arith}
 use lib.Dec.{lit<}
 use Rattle.memory.specs.declared.address.Block.TheVariants.{Low, Middle, High}
-use Rattle.command.specs.Form.{Command, form, form_of}
+use Rattle.command.specs.Form.{Command, form}
 use Rattle.command.specs.Codes.{row_code, form_code, BeginsWith, FormsNumbered}
 use Rattle.command.proofs.FormLaws.{Formed, formed, form_short, program_flash_lem, program_eeprom_lem, read_flash, read_eeprom, blank_check}
 use Rattle.command.proofs.FormLaws.{erase_block, erase_chip, write_byte, write_hsb, start_reset, start_at, read_version, read_byte, read_hsb_lem}
@@ -38,11 +38,11 @@ module _ (x y z : ℕ) (rest : List ℕ) (byte : y < 256) where
   coded k (read_byte q t l) = two 0x05 0x01 (lit< tt) q
   coded k (read_hsb_lem q t l) = three 0x05 0x02 0x00 (lit< tt) q t
 
-  by_form : (o : Option Command) → form (x ∷ y ∷ z ∷ rest) ≡ o → BeginsWith (x ∷ y ∷ z ∷ rest) (form_code (form_of o))
+  by_form : (o : Option Command) → form (x ∷ y ∷ z ∷ rest) ≡ o → BeginsWith (x ∷ y ∷ z ∷ rest) (form_code o)
   by_form None q = refl
   by_form (Some k) q = coded k (formed (x ∷ y ∷ z ∷ rest) k q)
 
-unlisted : (d : List ℕ) → form d ≡ None → BeginsWith d (form_code (form_of (form d)))
+unlisted : (d : List ℕ) → form d ≡ None → BeginsWith d (form_code (form d))
 unlisted d q = rw q
 
 pub forms_numbered : FormsNumbered

@@ -1,11 +1,11 @@
 -- 01's program transfer, and the order of the reader's answers, beside the definitions. Proved in proofs/LayoutHolds.antt.
-use Rattle.std.specs.Prelude.{◌≡◌, true, false, List, ◌++◌, ℕ, ◌+◌, ◌%◌, length, None, Some}
+use Rattle.std.specs.Prelude.{◌≡◌, true, false, List, ◌++◌, ℕ, ◌+◌, ◌%◌, length, None, Some, Ok, Err}
 use Rattle.words.specs.Words.{count}
 use Rattle.memory.specs.declared.address.FlashAddress.{FlashAddress}
 use Rattle.memory.specs.declared.address.EepromAddress.{EepromAddress}
-use Rattle.command.specs.Form.{form, Is, Unlisted, form_of, Command, ProgramFlash, ProgramEeprom}
-use Rattle.command.specs.Transfer.{Of, NoTransfer, filler_size, suffix_size, padding, body_place, transfer_of, body_of, suffix_of, bad_length}
-use Rattle.command.specs.Reader.{Parts, Taken, Stalls, BadAddress, parts_of, read_command, reading_status}
+use Rattle.command.specs.Form.{form, Command, ProgramFlash, ProgramEeprom}
+use Rattle.command.specs.Transfer.{laid, filler_size, suffix_size, padding, body_place, transfer_of, body_of, suffix_of, bad_length}
+use Rattle.command.specs.Reader.{Parts, Stall, BadAddress, parts_of, read_command, reading_status}
 use Rattle.command.specs.Ranges.{AddressRight}
 
 -- the commands that program, with their first address and their last
@@ -45,22 +45,19 @@ pub record Layout : Type 0 where
   -- "48 + X + n": no other length is right
   pub whole : (k : Command) (a e n : ℕ) → Programs k a e → a + n ≡ e + 1 → (d : List ℕ) → bad_length k d ≡ false → length d ≡ 48 + a % 32 + n
   -- X and n of a command that programs
-  pub transfer : (k : Command) (a e : ℕ) → Programs k a e → transfer_of k ≡ Of (a % 32) (count a e)
-  pub none : (k : Command) → ((a e : ℕ) → Programs k a e → ⊥) → transfer_of k ≡ NoTransfer
+  pub transfer : (k : Command) (a e : ℕ) → Programs k a e → transfer_of k ≡ Some (laid (a % 32) (count a e))
+  pub none : (k : Command) → ((a e : ℕ) → Programs k a e → ⊥) → transfer_of k ≡ None
   -- no other command has bytes, a suffix or a whole length
   pub no_transfer : (k : Command) → ((a e : ℕ) → Programs k a e → ⊥) → (d : List ℕ) → CarriesNone k d
 
 -- "The reader answers the command, stall or 08h, in that order without the level.": "form, .. address .., and for program at last its whole
 -- length"
 pub record ReaderOrder : Type 0 where
-  pub unlisted : (d : List ℕ) → form d ≡ None → read_command d ≡ Stalls
-  pub bad_address_lem : (d : List ℕ) (k : Command) → form d ≡ Some k → (AddressRight k → ⊥) → read_command d ≡ BadAddress
-  pub bad_length_lem : (d : List ℕ) (k : Command) → form d ≡ Some k → AddressRight k → bad_length k d ≡ true → read_command d ≡ Stalls
-  pub taken : (d : List ℕ) (k : Command) → form d ≡ Some k → AddressRight k → bad_length k d ≡ false → read_command d ≡ Taken k (parts_of k d)
-  -- the form as the code tells it
-  pub form_told : (k : Command) → form_of (Some k) ≡ Is k
-  pub form_untold : form_of None ≡ Unlisted
+  pub unlisted : (d : List ℕ) → form d ≡ None → read_command d ≡ Err Stall
+  pub bad_address_lem : (d : List ℕ) (k : Command) → form d ≡ Some k → (AddressRight k → ⊥) → read_command d ≡ Err BadAddress
+  pub bad_length_lem : (d : List ℕ) (k : Command) → form d ≡ Some k → AddressRight k → bad_length k d ≡ true → read_command d ≡ Err Stall
+  pub taken : (d : List ℕ) (k : Command) → form d ≡ Some k → AddressRight k → bad_length k d ≡ false → read_command d ≡ Ok (k, parts_of k d)
   -- "status 00h", "stall", "08h"
-  pub taken_00h : (k : Command) (p : Parts) → reading_status (Taken k p) ≡ 0x00
-  pub stall_0fh : reading_status Stalls ≡ 0x0F
-  pub address_08h : reading_status BadAddress ≡ 0x08
+  pub taken_00h : (k : Command) (p : Parts) → reading_status (Ok (k, p)) ≡ 0x00
+  pub stall_0fh : reading_status (Err Stall) ≡ 0x0F
+  pub address_08h : reading_status (Err BadAddress) ≡ 0x08

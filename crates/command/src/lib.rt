@@ -6,14 +6,12 @@
 
 mod check;
 mod command;
-mod form;
 mod reader;
 mod transfer;
 
 pub use check::{bad_address, bad_range, past_flash};
 pub use command::Command;
-pub use form::Form;
-pub use reader::{Parts, Reading};
+pub use reader::{Fault, Parts};
 pub use transfer::{Transfer, range_count, transfer_of};
 
 // "32 bytes of command (26 not looked at)", "16 suffix bytes", and the most bytes to program or read.

@@ -22,8 +22,7 @@ use Rattle.command.specs.declared.command.Command.TheVariants.{ProgramFlash, Pro
 use Rattle.command.specs.declared.command.Command.TheVariants.{StartReset, StartAt, ReadVersion, ReadByte, ReadHsb}
 use Rattle.command.specs.Form.{form}
 use Rattle.command.specs.Address.{bad_address}
-use Rattle.command.specs.declared.transfer.Transfer.TheVariants.{Of}
-use Rattle.command.specs.Transfer.{transfer_of, body_place, suffix_place, transfer_length, filler_size, suffix_size, padding, bad_length}
+use Rattle.command.specs.Transfer.{laid, transfer_of, body_place, suffix_place, transfer_length, filler_size, suffix_size, padding, bad_length}
 use Rattle.command.specs.Transfer.{body_of, suffix_of}
 use Rattle.command.specs.Reader.{parts_of}
 use Rattle.writer.specs.Writer.{Wrote, Unwritten, zeros, no_tail, tail_for, head_bytes, command_bytes, bad_parts, bad_write, cannot_write, put_answer, put_room}
@@ -70,9 +69,9 @@ was_written k d s room n false c q =
 
 -- the command k carries bytes for the addresses a to e, has six before its filler, and is checked for the lengths of its parts
 record Carries (k : Command) (a e : ℕ) : Type 0 where
-  transfer : transfer_of k ≡ Of (padding a) (count a e)
+  transfer : transfer_of k ≡ Some (laid (padding a) (count a e))
   six : length (head_bytes k) ≡ 6
-  checked : (d s : ℕ) → bad_write k d s ≡ bad_parts (Of (padding a) (count a e)) d s
+  checked : (d s : ℕ) → bad_write k d s ≡ bad_parts (Some (laid (padding a) (count a e))) d s
 
 carries_flash : (a e : FlashAddress) → Carries (ProgramFlash a e) a.0 e.0
 unfolding head_bytes

@@ -1,5 +1,6 @@
 -- The writer's refusals and its room hold in numbers.
 -- Assumes nothing.
+use Rattle.std.specs.Prelude.{Some}
 use mathlib.Core.Logic.{◌⊎◌, inl, inr}
 use mathlib.Core.Path.{◌≡◌, refl, ap, ◌∙◌}
 use mathlib.Core.Bool.{Bool, true, false, not, ◌||◌, or-true}
@@ -14,10 +15,9 @@ use Rattle.words.specs.Words.{count, among}
 use Rattle.words.proofs.WordsLaws.{or_false, overlay_front}
 use Rattle.config.specs.Config.{writable, readable, fixed_indexes}
 use Rattle.command.specs.Address.{bad_address}
-use Rattle.command.specs.Transfer.{padding}
+use Rattle.command.specs.Transfer.{laid, padding}
 use Rattle.command.specs.Ranges.{Unless, AddressRight}
 use Rattle.command.proofs.RangesHold.{address_told}
-use Rattle.command.specs.declared.transfer.Transfer.TheVariants.{Of}
 use Rattle.command.specs.declared.command.Command.{Command}
 use Rattle.command.specs.declared.command.Command.TheVariants.{ProgramFlash, ProgramEeprom, Read, BlankCheck, EraseBlock, EraseChip, WriteByte, WriteHsb}
 use Rattle.command.specs.declared.command.Command.TheVariants.{StartReset, StartAt, ReadVersion, ReadByte, ReadHsb}
@@ -25,7 +25,7 @@ use Rattle.writer.specs.Writer.{bad_parts, bad_write, cannot_write, command_byte
 use Rattle.writer.specs.WriterOrder.{PartsRight, CarriedRight, Writable, WriterOrder}
 
 -- a program transfer's data and suffix, of a forward range
-parts_told : (a e x : ℕ) (d s : List ℕ) → a ≤ e → Unless (bad_parts (Of x (count a e)) (length d) (length s)) (PartsRight a e d s)
+parts_told : (a e x : ℕ) (d s : List ℕ) → a ≤ e → Unless (bad_parts (Some (laid x (count a e))) (length d) (length s)) (PartsRight a e d s)
 parts_told a e x d s forward = record {
   told = λ q.
       let o = or_false (not (eqb (length d) (count a e))) (not (eqb (length s) 16)) q in

@@ -1,12 +1,11 @@
 -- The host's writer and the loader's reader undo each other. The statements are proved in proofs/RoundTripHolds.antt.
-use Rattle.std.specs.Prelude.{◌≡◌, List, [], ℕ, ◌-◌, ◌≤◌, ◌<◌, length, take, drop}
+use Rattle.std.specs.Prelude.{◌≡◌, List, [], ℕ, ◌-◌, ◌≤◌, ◌<◌, length, take, drop, Ok}
 use Rattle.words.specs.Words.{byte_at}
 use Rattle.command.specs.declared.command.Command.{Command}
 use Rattle.command.specs.declared.command.Command.TheVariants.{ProgramFlash, ProgramEeprom, Read, BlankCheck, EraseBlock, EraseChip, WriteByte, WriteHsb}
 use Rattle.command.specs.declared.command.Command.TheVariants.{StartReset, StartAt, ReadVersion, ReadByte, ReadHsb}
 use Rattle.command.specs.Transfer.{padding, body_place}
 use Rattle.command.specs.declared.reader.Parts.{Parts}
-use Rattle.command.specs.declared.reader.Reading.TheVariants.{Taken}
 use Rattle.command.specs.Reader.{parts_of, read_command}
 pub use Rattle.command.specs.Rows.{Bytes}
 use Rattle.writer.specs.Writer.{Wrote, write_command, room_after}
@@ -36,7 +35,7 @@ carried ReadHsb x = []
 
 -- the data p reads as the command k with the body d and the suffix s
 pub record ReadsAs (p : List ℕ) (k : Command) (d s : List ℕ) : Type 0 where
-  pub command : read_command p ≡ Taken k (parts_of k p)
+  pub command : read_command p ≡ Ok (k, parts_of k p)
   pub body : body_at (parts_of k p) p ≡ d
   pub suffix : suffix_at (parts_of k p) p ≡ s
 
@@ -72,5 +71,5 @@ pub record WritesAs (p : List ℕ) (k : Command) (room : List ℕ) : Type 0 wher
 -- "A payload that a level 0 board in state 2 answers without stall or 08h, with zero filler and pad, is written back byte for
 -- byte.": here, a payload that the reader takes; the loader's crate says that those are the same
 abbrev pub WritesBack : Type 0
-WritesBack = (p : List ℕ) (k : Command) → Bytes p → read_command p ≡ Taken k (parts_of k p) → ZeroFilled k p
+WritesBack = (p : List ℕ) (k : Command) → Bytes p → read_command p ≡ Ok (k, parts_of k p) → ZeroFilled k p
     → (room : List ℕ) → length p ≤ length room → WritesAs p k room

@@ -1,5 +1,5 @@
 -- The host's command writer. Assumes nothing: these are definitions.
-use Rattle.std.specs.Prelude.{if◌then◌else◌, ◌≡◌, Bool, false, not, ◌||◌, List, [], ◌∷◌, ◌++◌, ℕ, ◌+◌, ◌-◌, ◌/◌, ◌%◌, ◌≤◌, eqb, ltb, length, take, replicate}
+use Rattle.std.specs.Prelude.{if◌then◌else◌, ◌≡◌, Bool, false, not, ◌||◌, List, [], ◌∷◌, ◌++◌, ℕ, ◌+◌, ◌-◌, ◌/◌, ◌%◌, ◌≤◌, eqb, ltb, length, take, replicate, Option, None, Some}
 use Rattle.words.specs.Words.{overlay}
 use Rattle.memory.specs.declared.address.Range.{Range}
 use Rattle.memory.specs.declared.address.Range.TheVariants.{Flash, Eeprom}
@@ -11,7 +11,6 @@ use Rattle.command.specs.declared.command.Command.TheVariants.{StartReset, Start
 use Rattle.command.specs.Form.{block_code}
 use Rattle.command.specs.Address.{bad_address}
 use Rattle.command.specs.declared.transfer.Transfer.{Transfer}
-use Rattle.command.specs.declared.transfer.Transfer.TheVariants.{Of, NoTransfer}
 use Rattle.command.specs.Transfer.{transfer_of, filler_size, suffix_size}
 pub use Rattle.writer.specs.declared.head.Head.{Head}
 pub use Rattle.writer.specs.declared.write.Tail.{Tail}
@@ -66,9 +65,9 @@ head_bytes (ReadByte i) = 0x05 ∷ 0x01 ∷ i ∷ []
 head_bytes ReadHsb = 0x05 ∷ 0x02 ∷ 0x00 ∷ []
 
 -- how many zeros, bytes of the body and bytes of the suffix follow: none but in a program transfer. d and s are as many as given
-abbrev pub transfer_tail : Transfer → ℕ → ℕ → Tail
-transfer_tail (Of x n) d s = record { zeros = filler_size + x; body = d; suffix = s }
-transfer_tail NoTransfer d s = no_tail
+abbrev pub transfer_tail : Option Transfer → ℕ → ℕ → Tail
+transfer_tail (Some t) d s = record { zeros = filler_size + t.pad; body = d; suffix = s }
+transfer_tail None d s = no_tail
 
 abbrev pub tail_for : Command → ℕ → ℕ → Tail
 tail_for k d s = transfer_tail (transfer_of k) d s
@@ -116,9 +115,9 @@ command_bytes k d s =
 -- ---- its refusals
 
 -- "for program data not as long as the range or suffix not 16 bytes"; d and s bytes of data and suffix
-abbrev pub bad_parts : Transfer → ℕ → ℕ → Bool
-bad_parts (Of x n) d s = not (eqb d n) || not (eqb s suffix_size)
-bad_parts NoTransfer d s = false
+abbrev pub bad_parts : Option Transfer → ℕ → ℕ → Bool
+bad_parts (Some t) d s = not (eqb d t.bytes) || not (eqb s suffix_size)
+bad_parts None d s = false
 
 -- that, of a program transfer; of a byte, "configuration index unknown"
 abbrev pub bad_write : Command → ℕ → ℕ → Bool

@@ -5,7 +5,7 @@ ghost use Rattle.writer.specs.Writer.{Put, tail_for, bad_parts, bad_write, put_b
 ghost use Rattle.writer.specs.Writer.{written_number, written_count};
 
 use crate::head::{Head, head_of};
-use command::{Command, FILLER_SIZE, SUFFIX_SIZE, Transfer};
+use command::{Command, FILLER_SIZE, SUFFIX_SIZE};
 
 // What the writer answers: how many bytes it put into its room, or the number of its refusal.
 #[derive(Clone, Copy)]
@@ -51,12 +51,12 @@ fn tail_of(command: Command, body: usize, suffix: usize) -> Tail
     ensures { result ≡ tail_for command body suffix }
 {
     match command::transfer_of(command) {
-        Transfer::Of(pad, _) => Tail {
-            zeros: FILLER_SIZE + (pad as usize),
+        Some(transfer) => Tail {
+            zeros: FILLER_SIZE + usize::from(transfer.pad),
             body,
             suffix,
         },
-        Transfer::NoTransfer => Tail {
+        None => Tail {
             zeros: 0,
             body: 0,
             suffix: 0,
@@ -69,13 +69,8 @@ fn bad_parts(command: Command, body: usize, suffix: usize) -> bool
     ensures { result ≡ bad_parts (transfer_of command) body suffix }
 {
     match command::transfer_of(command) {
-        Transfer::Of(_, bytes) => {
-            if body != (bytes as usize) {
-                return true;
-            }
-            suffix != SUFFIX_SIZE
-        }
-        Transfer::NoTransfer => false,
+        Some(transfer) => body != (transfer.bytes as usize) || suffix != SUFFIX_SIZE,
+        None => false,
     }
 }
 
