@@ -23,7 +23,6 @@ lt_or_ge a b = ⊎_elim (λ e. inl (ltb-true a b e)) (λ e. inr (ltb-false a b e
 -- ---- the first line feed
 
 index_after_le : (t : Bool) (k n : ℕ) → k ≤ n → index_after t k ≤ suc n
-unfolding index_after
 index_after_le true k n h = omega arith
 index_after_le false k n h = omega arith
 
@@ -34,7 +33,7 @@ index_le b (x ∷ l) = index_after_le (eqb x b) (index_of b l) (length l) (index
 
 -- from the first on, it stands there at once
 again : (t : Bool) (b x : ℕ) (l : List ℕ) → eqb x b ≡ t → index_of b (drop (index_of b l) l) ≡ 0 → index_of b (drop (index_after t (index_of b l)) (x ∷ l)) ≡ 0
-unfolding index_of index_after
+unfolding index_of
 again true b x l e h = rw e
 again false b x l e h = h
 
@@ -44,7 +43,7 @@ index_again b [] = refl
 index_again b (x ∷ l) = again (eqb x b) b x l refl (index_again b l)
 
 index_later : (b x : ℕ) (l : List ℕ) → eqb x b ≡ false → index_of b (x ∷ l) ≡ suc (index_of b l)
-unfolding index_of index_after
+unfolding index_of
 index_later b x l e = rw e
 
 module _ (file : List ℕ) (at : ℕ) where

@@ -22,7 +22,6 @@ use Rattle.listing.proofs.FilesHold.{files}
 
 not_there : (t : Bool) (b x i : ℕ) (l : List ℕ) → eqb x b ≡ t → ((j : ℕ) → j < index_of b l → get_or l j 0 ≡ b → ⊥)
     → i < index_after t (index_of b l) → get_or (x ∷ l) i 0 ≡ b → ⊥
-unfolding index_after
 not_there true b x i l e later h q = absurd (omega arith)
 not_there false b x zero l e later h q = let t = eq-eqb x b q in let z : ◌≡◌ {A = ℕ} 0 1 = cc in absurd (omega arith)
 not_there false b x (suc i) l e later h q = later i (omega arith) q
@@ -34,7 +33,6 @@ none_before b (x ∷ l) i h q = not_there (eqb x b) b x i l refl (none_before b 
 
 there : (t : Bool) (b x : ℕ) (l : List ℕ) → eqb x b ≡ t → (index_of b l < length l → get_or l (index_of b l) 0 ≡ b)
     → index_after t (index_of b l) < length (x ∷ l) → get_or (x ∷ l) (index_after t (index_of b l)) 0 ≡ b
-unfolding index_after
 there true b x l e later h = eqb-true x b e
 there false b x l e later h = later (omega arith)
 

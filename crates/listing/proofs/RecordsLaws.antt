@@ -1,6 +1,6 @@
 -- Laws of the records of a file: how they go on from a line, and that the walk meets them in order.
 -- Assumes nothing.
-use Rattle.std.specs.Prelude.{if◌then◌else◌}
+use Rattle.std.specs.Prelude.{if◌then◌else◌, Option, None, Some}
 use mathlib.Core.Logic.{⊎_elim}
 use mathlib.Core.Path.{◌≡◌, refl, sym, ap, ◌∙◌}
 use mathlib.Core.Bool.{Bool, true, false}
@@ -12,7 +12,7 @@ use lib.Dec.{leb, ltb}
 use lib.ListN.{length}
 use borrow.Author.Tests.{le-leb, lt-leb}
 use Rattle.listing.specs.Line.{line_end, without_return, text_end, is_record}
-use Rattle.listing.specs.Records.{Record, NoMore, Span, span, most_file, records_in, records_from, records_of, first_met, walked_on, walked, InOrder}
+use Rattle.listing.specs.Records.{Span, span, most_file, records_in, records_from, records_of, first_met, walked_on, walked, InOrder}
 use Rattle.listing.proofs.LineLaws.{which, lt_or_ge, line_within, line_again, line_before, cut, cut_or_not, not_cut_empty, cut_bounds}
 use Rattle.listing.proofs.LineLaws.{Returns, empty_no_record, record_some}
 
@@ -107,11 +107,18 @@ from_earlier : (file : List ℕ) (at later start end : ℕ) → records_from fil
     → Steps file later start end → Steps file at start end
 from_earlier file at later start end e h s = record { met = e ∙ s.met; after = omega (arith, s.after); some = s.some; within = s.within }
 
-none_met : {A : Type 0} (file : List ℕ) (at start end : ℕ) → records_from file at ≡ [] → first_met (records_from file at) ≡ Record start end → A
-none_met file at start end e f = let g : NoMore ≡ Record start end = sym (ap first_met e) ∙ f in let z : ◌≡◌ {A = ℕ} 0 1 = cc in absurd (omega arith)
+none_met : {A : Type 0} (file : List ℕ) (at start end : ℕ) → records_from file at ≡ [] → first_met (records_from file at) ≡ Some (span start end) → A
+none_met file at start end e f = let g : None ≡ Some (span start end) = sym (ap first_met e) ∙ f in cc
 
-record_met : (start end start' end' : ℕ) → Record start end ≡ Record start' end' → (start ≡ start') × (end ≡ end')
-record_met start end start' end' e = (cc, cc)
+record_met : (start end start' end' : ℕ) → Some (span start end) ≡ Some (span start' end') → (start ≡ start') × (end ≡ end')
+record_met start end start' end' e = (ap start_of e, ap end_of e) where
+  start_of : Option Span → ℕ
+  start_of None = 0
+  start_of (Some s) = s.start
+
+  end_of : Option Span → ℕ
+  end_of None = 0
+  end_of (Some s) = s.end
 
 -- the line at a place is a record
 here : (file : List ℕ) (at : ℕ) → at < length file → is_record file at (text_end file at) ≡ true → Steps file at at (text_end file at)
@@ -126,7 +133,7 @@ here file at h r =
     }
 
 -- the first number bounds the bytes left
-steps_in : (n : ℕ) (file : List ℕ) (at start end : ℕ) → length file ≤ at + n → first_met (records_from file at) ≡ Record start end → Steps file at start end
+steps_in : (n : ℕ) (file : List ℕ) (at start end : ℕ) → length file ≤ at + n → first_met (records_from file at) ≡ Some (span start end) → Steps file at start end
 steps_in zero file at start end h f = none_met file at start end (from_none file at (omega arith)) f
 steps_in (suc n) file at start end h f =
     ⊎_elim
@@ -150,12 +157,12 @@ steps_in (suc n) file at start end h f =
     (λ (s : length file ≤ at). none_met file at start end (from_none file at s) f)
     (lt_or_ge at (length file))
 
-pub steps : (file : List ℕ) (at start end : ℕ) → first_met (records_from file at) ≡ Record start end → Steps file at start end
+pub steps : (file : List ℕ) (at start end : ℕ) → first_met (records_from file at) ≡ Some (span start end) → Steps file at start end
 steps file at start end f = steps_in (length file) file at start end (omega arith) f
 
-pub no_more : (ss : List Span) → first_met ss ≡ NoMore → ss ≡ []
+pub no_more : (ss : List Span) → first_met ss ≡ None → ss ≡ []
 no_more [] e = refl
-no_more (s ∷ ss) e = let z : ◌≡◌ {A = ℕ} 0 1 = cc in absurd (omega arith)
+no_more (s ∷ ss) e = cc
 
 -- ---- the whole walk
 
@@ -179,7 +186,7 @@ in_order file = walk_from (length file) file 0 (omega arith)
 -- ---- a turn of the loop that looks for a record: it began at `from` and is at `at`; feed and end are in locals
 
 module _ (file : List ℕ) (from at : ℕ) (w : records_from file from ≡ records_from file at) where
-  pub turn_none : length file ≤ at → NoMore ≡ first_met (records_from file from)
+  pub turn_none : length file ≤ at → None ≡ first_met (records_from file from)
   turn_none h = rw (w, from_none file at h)
 
   module _ (feed end : ℕ) (t : Bool) (h : at < length file) (l : feed ≡ line_end file at) (c : end ≡ without_return file at feed)
@@ -190,21 +197,18 @@ module _ (file : List ℕ) (from at : ℕ) (w : records_from file from ≡ recor
     told : t ≡ is_record file at (text_end file at)
     told = q ∙ ap (is_record file at) ends
 
-    pub turn_record : t ≡ true → Record at end ≡ first_met (records_from file from)
-    turn_record y = rw (w, from_record file at h (sym told ∙ y)) (ap (Record at) ends)
+    pub turn_record : t ≡ true → Some (span at end) ≡ first_met (records_from file from)
+    turn_record y = rw (w, from_record file at h (sym told ∙ y)) (ap (λ e. Some (span at e)) ends)
 
     pub turn_other : t ≡ false → records_from file from ≡ records_from file (feed + 1)
     turn_other n = w ∙ from_other file at h (sym told ∙ n) ∙ ap (records_from file) (sym (add-one feed ∙ ap suc l))
 
-    pub turn_last : t ≡ false → feed ≡ length file → NoMore ≡ first_met (records_from file from)
-    turn_last n e = rw (turn_other n, from_none file (feed + 1) (omega arith))
-
 -- ---- a turn of the loop that counts: so many were counted before `at`
 
 module _ (file : List ℕ) (count at : ℕ) (sum : count + length (records_from file at) ≡ length (records_from file 0)) where
-  module _ (start end : ℕ) (m : first_met (records_from file at) ≡ Record start end) where
+  module _ (start end : ℕ) (m : first_met (records_from file at) ≡ Some (span start end)) where
     pub counted_one : count + 1 + length (records_from file end) ≡ length (records_from file 0)
     counted_one = omega (arith, ap length (steps file at start end m).met)
 
-  pub counted_all : first_met (records_from file at) ≡ NoMore → count ≡ length (records_from file 0)
+  pub counted_all : first_met (records_from file at) ≡ None → count ≡ length (records_from file 0)
   counted_all m = omega (arith, ap length (no_more (records_from file at) m))

@@ -1,9 +1,9 @@
 -- Files of records, character by character, each with the records that it holds. Proved in proofs/FilesHold.antt.
-use Rattle.std.specs.Prelude.{◌≡◌, true, false, List, [], ◌∷◌, ◌++◌, ℕ, ◌≤◌, ◌<◌, length}
+use Rattle.std.specs.Prelude.{◌≡◌, Some, None, true, false, List, [], ◌∷◌, ◌++◌, ℕ, ◌≤◌, ◌<◌, length}
 use Rattle.lines.specs.Text.{ascii}
 use Rattle.words.specs.Words.{byte_at}
 use Rattle.listing.specs.Line.{is_record, starts_erased}
-use Rattle.listing.specs.Records.{Record, NoMore, span, records_from, records_of, record_count, first_met}
+use Rattle.listing.specs.Records.{span, records_from, records_of, record_count, first_met}
 
 -- the mark and its line end; a record whose line ends with CR LF; an empty line; a note; a record that ends with the file
 abbrev pub some_file : List ℕ
@@ -12,9 +12,9 @@ some_file = ascii "#erased\n" ++ ascii ":AA" ++ (0x0D ∷ 0x0A ∷ []) ++ ascii 
 pub record Files : Type 0 where
   -- where its two records begin, and the place after each
   pub two_records : records_of some_file ≡ span 8 11 ∷ span 18 22 ∷ []
-  pub met_first : first_met (records_from some_file 0) ≡ Record 8 11
-  pub met_second : first_met (records_from some_file 11) ≡ Record 18 22
-  pub met_no_more : first_met (records_from some_file 22) ≡ NoMore
+  pub met_first : first_met (records_from some_file 0) ≡ Some (span 8 11)
+  pub met_second : first_met (records_from some_file 11) ≡ Some (span 18 22)
+  pub met_no_more : first_met (records_from some_file 22) ≡ None
   -- whatever its characters are, a line is a record; a CR that no LF follows is of the record
   pub any_characters : records_of (ascii "x y\n") ≡ span 0 3 ∷ []
   pub return_alone : records_of (ascii ":A" ++ (0x0D ∷ [])) ≡ span 0 3 ∷ []

@@ -1,9 +1,9 @@
 -- The lines of a file and the records among them, of every file and place, in numbers. Proved in proofs/LinesHold.antt.
-use Rattle.std.specs.Prelude.{◌↔◌, ◌≡◌, true, List, [], ◌∷◌, ℕ, ◌+◌, ◌-◌, ◌≤◌, ◌<◌, length, take}
+use Rattle.std.specs.Prelude.{◌↔◌, ◌≡◌, Some, None, true, List, [], ◌∷◌, ℕ, ◌+◌, ◌-◌, ◌≤◌, ◌<◌, length, take}
 use Rattle.words.specs.Words.{byte_at}
 use Rattle.lines.specs.Text.{ascii}
 use Rattle.listing.specs.Line.{line_end, text_end, starts_erased}
-use Rattle.listing.specs.Records.{Record, NoMore, Span, span, most_file, records_from, first_met}
+use Rattle.listing.specs.Records.{Span, span, most_file, records_from, first_met}
 
 -- the line that begins at a place
 pub record LineAt (file : List ℕ) (at : ℕ) : Type 0 where
@@ -32,7 +32,7 @@ pub record Lines : Type 0 where
   pub records : (file : List ℕ) (at : ℕ) → RecordsAt file at
   pub of_span : (start end : ℕ) → ((span start end).start ≡ start) × ((span start end).end ≡ end)
   -- of all that are met the first is told
-  pub first_met_lem : (start end : ℕ) (ss : List Span) → first_met (span start end ∷ ss) ≡ Record start end
-  pub none_met : first_met [] ≡ NoMore
+  pub first_met_lem : (start end : ℕ) (ss : List Span) → first_met (span start end ∷ ss) ≡ Some (span start end)
+  pub none_met : first_met [] ≡ None
   -- a file is run on a board after a full chip erase just where the characters of its first line are `#erased`
   pub erased : (file : List ℕ) → (starts_erased file ≡ true) ↔ (take (text_end file 0) file ≡ ascii "#erased")

@@ -1,13 +1,8 @@
 -- The records of a file. Assumes nothing: these are definitions and a statement.
-use Rattle.std.specs.Prelude.{if◌then◌else◌, ◌≡◌, List, [], ◌∷◌, ℕ, zero, suc, leb, ltb, length}
+use Rattle.std.specs.Prelude.{if◌then◌else◌, ◌≡◌, Option, None, Some, List, [], ◌∷◌, ℕ, zero, suc, leb, ltb, length}
 use Rattle.listing.specs.Line.{line_end, text_end, is_record}
-pub use Rattle.listing.specs.declared.walk.Met.{Met}
-pub use Rattle.listing.specs.declared.walk.Met.TheVariants.{Record, NoMore}
-
 -- where a record's characters lie in the file: the place of the first, and the place after the last
-pub record Span : Type 0 where
-  pub start : ℕ
-  pub end : ℕ
+pub use Rattle.listing.specs.declared.walk.Span.{Span}
 
 abbrev pub span : ℕ → ℕ → Span
 span start end = record { start = start; end = end }
@@ -34,15 +29,15 @@ records_of file = if ltb most_file (length file) then [] else records_from file 
 abbrev pub record_count : List ℕ → ℕ
 record_count file = length (records_of file)
 
--- the first of some records, as the code gives it
-abbrev pub first_met : List Span → Met
-first_met [] = NoMore
-first_met (s ∷ ss) = Record s.start s.end
+-- the first of some records, if there is one
+abbrev pub first_met : List Span → Option Span
+first_met [] = None
+first_met (s ∷ ss) = Some s
 
 -- the records that a walk meets that looks for each from the end of the one before on; the first number bounds them
-abbrev pub walked_on : (ℕ → List Span) → Met → List Span
-walked_on next NoMore = []
-walked_on next (Record start end) = span start end ∷ next end
+abbrev pub walked_on : (ℕ → List Span) → Option Span → List Span
+walked_on next None = []
+walked_on next (Some s) = s ∷ next s.end
 
 unfoldable pub walked : ℕ → List ℕ → ℕ → List Span
 walked zero file at = []

@@ -2,7 +2,7 @@
 ghost use Rattle.std.specs.Prelude.{◌≡◌};
 ghost use Rattle.listing.specs.Records.{record_count};
 
-use crate::walk::{Met, next_record};
+use crate::walk::next_record;
 
 // A file that is longer is refused with 16.
 pub const MOST_FILE: usize = 1048576;
@@ -15,16 +15,10 @@ pub fn count_records(file: &[u8]) -> usize
         return 0;
     }
     let mut count = 0;
-    let mut at: usize = 0;
-    loop {
-        match next_record(file, at) {
-            Met::Record(_, end) => {
-                count += 1;
-                at = end;
-            }
-            Met::NoMore => {
-                return count;
-            }
-        }
+    let mut at = 0;
+    while let Some(span) = next_record(file, at) {
+        count += 1;
+        at = span.end;
     }
+    count
 }

@@ -9,4 +9,4 @@ mod walk;
 
 pub use count::{MOST_FILE, count_records};
 pub use line::starts_erased;
-pub use walk::{Met, next_record};
+pub use walk::{Span, next_record};

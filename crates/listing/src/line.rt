@@ -14,12 +14,10 @@ pub(crate) fn line_end(file: &[u8], at: usize) -> usize
     ensures value { result ≡ line_end file.now at }
     ensures lower_bound { (at ≤ result) × (result ≤ length file.now) }
 {
-    for i in at..file.len() {
-        if file[i] == LINE_FEED {
-            return i;
-        }
+    match file[at..].iter().position(|b| *b == LINE_FEED) {
+        Some(n) => at + n,
+        None => file.len(),
     }
-    file.len()
 }
 
 // Where its characters end: before the carriage return that stands before the line feed, if there is one.

@@ -4,16 +4,15 @@ ghost use Rattle.listing.specs.Records.{records_from, first_met};
 
 use crate::line::{is_record, line_end, without_return};
 
-// Where the characters of the record that was met begin, and the place after them; or no more records. The next walk starts at that
-// place.
-#[derive(Clone, Copy)]
-pub enum Met {
-    Record(usize, usize),
-    NoMore,
+// Where the characters of a record begin, and the place after them. The next walk starts at that place.
+#[derive(Clone, Copy, Debug, PartialEq, Eq)]
+pub struct Span {
+    pub start: usize,
+    pub end: usize,
 }
 
 // The first line from a place on that is a record.
-pub fn next_record(file: &[u8], from: usize) -> Met
+pub fn next_record(file: &[u8], from: usize) -> Option<Span>
     ensures { result ≡ first_met (records_from file.now from) }
 {
     let mut at = from;
@@ -21,12 +20,9 @@ pub fn next_record(file: &[u8], from: usize) -> Met
         let feed = line_end(file, at);
         let end = without_return(file, at, feed);
         if is_record(file, at, end) {
-            return Met::Record(at, end);
-        }
-        if feed == file.len() {
-            return Met::NoMore;
+            return Some(Span { start: at, end });
         }
         at = feed + 1;
     }
-    Met::NoMore
+    None
 }

@@ -1,5 +1,5 @@
 // The configuration bytes of the board.
-#[derive(Clone, Copy)]
+#[derive(Clone, Copy, Debug, PartialEq, Eq)]
 pub struct Config {
     pub bsb: u8,
     pub sbv: u8,

@@ -2,7 +2,7 @@
 use memory::FlashAddress;
 
 // The four blocks of flash.
-#[derive(Clone, Copy)]
+#[derive(Clone, Copy, Debug, PartialEq, Eq)]
 pub enum Block {
     Block0,
     Block1,
@@ -11,14 +11,14 @@ pub enum Block {
 }
 
 // A fuse bit: "U: Unprogrammed = 1, P: Program = 0".
-#[derive(Clone, Copy)]
+#[derive(Clone, Copy, Debug, PartialEq, Eq)]
 pub enum Bit {
     Programmed,
     Unprogrammed,
 }
 
 // What "Program Configuration Information" sets.
-#[derive(Clone, Copy)]
+#[derive(Clone, Copy, Debug, PartialEq, Eq)]
 pub enum Setting {
     SsbLevel1,
     SsbLevel2,
@@ -31,7 +31,7 @@ pub enum Setting {
 
 // What "Read Configuration Information or Manufacturer Information" reads: a byte that no board changes, with its value, or one of
 // the configuration.
-#[derive(Clone, Copy)]
+#[derive(Clone, Copy, Debug, PartialEq, Eq)]
 pub enum Byte {
     Fixed(u8),
     Ssb,

@@ -1,6 +1,6 @@
 -- The pieces of a file's text, one after another: each turn gives the next, and after the last none is left.
 -- Assumes nothing.
-use Rattle.std.specs.Prelude.{if◌then◌else◌}
+use Rattle.std.specs.Prelude.{if◌then◌else◌, Option, Some, None}
 use mathlib.Core.Logic.{⊎_elim}
 use mathlib.Core.Path.{◌≡◌, refl, sym, ap, ◌∙◌}
 use mathlib.Core.Bool.{Bool, true, false}
@@ -18,13 +18,11 @@ use Rattle.lines.specs.Room.{put, put_end, Stands}
 use Rattle.lines.proofs.LineLaws.{records_line_le, refused_line_le}
 use Rattle.lines.proofs.RoomLaws.{put_stands}
 use Rattle.listing.specs.Records.{Span, span, most_file, records_from, records_of, record_count, first_met}
-use Rattle.listing.specs.declared.walk.Met.{Met}
-use Rattle.listing.specs.declared.walk.Met.TheVariants.{Record, NoMore}
 use Rattle.listing.proofs.LineLaws.{which}
 use Rattle.listing.proofs.RecordsLaws.{Steps, steps, from_none, no_more, records_few}
 use Rattle.plug.specs.Step.{Board, board, Result, next, blank_flash}
 use Rattle.plugrun.specs.Written.{record_text, asked, start_board, record_texts, first_text, pieces, in_a_row, written}
-use Rattle.plugrun.specs.Turn.{Progress, Turn, Took, AllTaken, Left, progress, board_at, took, met_turn, turned}
+use Rattle.plugrun.specs.Turn.{Progress, Turn, turn_of, Left, progress, board_at, took, met_turn, turned}
 use Rattle.plugrun.specs.Turn.{most_text, start_place, start_progress, IsPiece, HandedOnInOrder}
 use Rattle.plugrun.proofs.TurnLaws.{text_front, record_text_le}
 
@@ -115,62 +113,63 @@ module _ (file : List ℕ) (number : ℕ) (p : Progress) (f reply room : List �
     (e : l ≡ turned file number p f reply room) where
   -- by what the walk met
   record Taken : Type 0 where
-    start : ℕ
-    end : ℕ
-    met : first_met (records_from file p.at) ≡ Record start end
-    left_is : l ≡ took file number (board_at p f) reply room start end
+    span_of : Span
+    met : first_met (records_from file p.at) ≡ Some span_of
+    left_is : l ≡ took file number (board_at p f) reply room span_of
 
-  of_turn : (m : Met) → first_met (records_from file p.at) ≡ m → l ≡ met_turn file number (board_at p f) reply room m
-      → (q : Progress) (size : ℕ) → l.turn ≡ Took q size → Taken
-  of_turn (Record start end) m i q size t = record { start = start; end = end; met = m; left_is = i }
-  of_turn NoMore m i q size t =
-      let no : AllTaken ≡ Took q size = sym (ap (λ (x : Left). x.turn) i) ∙ t in
-      let z : ◌≡◌ {A = ℕ} 0 1 = cc in
-      absurd (omega arith)
+  of_turn : (m : Option Span) → first_met (records_from file p.at) ≡ m → l ≡ met_turn file number (board_at p f) reply room m
+      → (u : Turn) → l.turn ≡ Some u → Taken
+  of_turn (Some s) m i u t = record { span_of = s; met = m; left_is = i }
+  of_turn None m i u t =
+      let no : None ≡ Some u = sym (ap (λ (x : Left). x.turn) i) ∙ t in
+      cc
 
   -- a record was taken
-  module _ (q : Progress) (size : ℕ) (t : l.turn ≡ Took q size) where
+  module _ (u : Turn) (t : l.turn ≡ Some u) where
     taken : Taken
     unfolding turned
-    taken = of_turn (first_met (records_from file p.at)) refl e q size t
+    taken = of_turn (first_met (records_from file p.at)) refl e u t
 
     r : Result
-    r = asked file (span taken.start taken.end) (board_at p f)
+    r = asked file taken.span_of (board_at p f)
 
     text : List ℕ
     unfolding r
     text = record_text number r
 
-    took_is : (q ≡ progress r.config taken.end) × (size ≡ length text)
+    same_turn : (v w : Turn) → Some v ≡ Some w → v ≡ w
+    same_turn v w e = cc
+
+    took_is : (u.progress ≡ progress r.config taken.span_of.end) × (u.size ≡ length text)
     unfolding r text
     took_is =
-        let same : Took q size ≡ Took (progress r.config taken.end) (length text) = sym t ∙ ap (λ (x : Left). x.turn) taken.left_is in
-        (cc, cc)
+        let same = same_turn _ _ (sym t ∙ ap (λ (x : Left). x.turn) taken.left_is) in
+        (ap (λ (x : Turn). x.progress) same, ap (λ (x : Turn). x.size) same)
 
-    stepped : Steps file p.at taken.start taken.end
-    stepped = steps file p.at taken.start taken.end taken.met
+    stepped : Steps file p.at taken.span_of.start taken.span_of.end
+    stepped = steps file p.at taken.span_of.start taken.span_of.end taken.met
 
     piece : (get_or (pieces file) number [] ≡ text) × (number < length (pieces file))
-        × (drop (suc number) (pieces file) ≡ record_texts file (next (board_at p f) r) (suc number) (records_from file taken.end))
+        × (drop (suc number) (pieces file) ≡ record_texts file (next (board_at p f) r) (suc number) (records_from file taken.span_of.end))
     unfolding r text
     piece =
         next_piece (pieces file) _ number text
-        (s.rest ∙ ap (record_texts file (board_at p f) number) stepped.met ∙ texts_first file (board_at p f) number (span taken.start taken.end) _)
+        (s.rest ∙ ap (record_texts file (board_at p f) number) stepped.met ∙ texts_first file (board_at p f) number taken.span_of _)
 
     -- its text stands at the front of the room, which was lent for every text
     pub same_room : most_text ≤ length room → length l.room ≡ length room
     unfolding r text
     same_room h =
-        let fits = record_text_le file number (span taken.start taken.end) (board_at p f) in
+        let fits = record_text_le file number taken.span_of (board_at p f) in
         ap (λ (x : Left). length x.room) taken.left_is ∙ length_overlay 0 text room (omega arith)
 
-    pub size_within : most_text ≤ length room → size ≤ length l.room
+    pub size_within : most_text ≤ length room → u.size ≤ length l.room
     unfolding r text
     size_within h =
-        omega (arith, record_text_le file number (span taken.start taken.end) (board_at p f), same_room h, took_is.1)
+        omega (arith, record_text_le file number taken.span_of (board_at p f), same_room h, took_is.1)
 
     -- and is the next piece
-    pub is_piece : IsPiece file number (take size l.room)
+    pub is_piece : IsPiece file number (take u.size l.room)
     unfolding r text
     is_piece = record {
       the_piece = ap (λ (n : ℕ). take n l.room) took_is.1 ∙ ap (λ (x : Left). take (length text) x.room) taken.left_is
@@ -180,33 +179,32 @@ module _ (file : List ℕ) (number : ℕ) (p : Progress) (f reply room : List �
       number_small = omega (arith, s.number_small, stepped.after, stepped.some, stepped.within);
     }
 
-    pub further : SoFar file (suc number) q l.flash
+    pub further : SoFar file (suc number) u.progress l.flash
     unfolding r text
     further =
         let flash : l.flash ≡ (next (board_at p f) r).flash = ap (λ (x : Left). x.flash) taken.left_is in
-        let after : board_at q l.flash ≡ next (board_at p f) r = ap (λ (x : Progress). board_at x l.flash) took_is.0 ∙ ap (board r.config) flash in
-        let place : q.at ≡ taken.end = ap (λ (x : Progress). x.at) took_is.0 in
+        let after : board_at u.progress l.flash ≡ next (board_at p f) r = ap (λ (x : Progress). board_at x l.flash) took_is.0 ∙ ap (board r.config) flash in
+        let place : u.progress.at ≡ taken.span_of.end = ap (λ (x : Progress). x.at) took_is.0 in
         record {
           rest = piece.2
-              ∙ ap (λ (b : Board). record_texts file b (suc number) (records_from file taken.end)) (sym after)
-              ∙ ap (λ (n : ℕ). record_texts file (board_at q l.flash) (suc number) (records_from file n)) (sym place);
+              ∙ ap (λ (b : Board). record_texts file b (suc number) (records_from file taken.span_of.end)) (sym after)
+              ∙ ap (λ (n : ℕ). record_texts file (board_at u.progress l.flash) (suc number) (records_from file n)) (sym place);
           no_more_than_all = omega (arith, piece.1);
           number_small = omega (arith, place, s.number_small, stepped.after, stepped.some);
         }
 
-    pub less_left : length file - q.at < length file - p.at
+    pub less_left : length file - u.progress.at < length file - p.at
     less_left = rw took_is.0 (omega (arith, stepped.after, stepped.some, stepped.within))
 
   -- no record was left
-  of_end : (m : Met) → first_met (records_from file p.at) ≡ m → l ≡ met_turn file number (board_at p f) reply room m
-      → l.turn ≡ AllTaken → records_from file p.at ≡ []
-  of_end (Record start end) m i t =
-      let no : ◌≡◌ {A = Turn} (took file number (board_at p f) reply room start end).turn AllTaken = sym (ap (λ (x : Left). x.turn) i) ∙ t in
-      let z : ◌≡◌ {A = ℕ} 0 1 = cc in
-      absurd (omega arith)
-  of_end NoMore m i t = no_more (records_from file p.at) m
+  of_end : (m : Option Span) → first_met (records_from file p.at) ≡ m → l ≡ met_turn file number (board_at p f) reply room m
+      → l.turn ≡ None → records_from file p.at ≡ []
+  of_end (Some s) m i t =
+      let no : ◌≡◌ {A = Option Turn} (took file number (board_at p f) reply room s).turn None = sym (ap (λ (x : Left). x.turn) i) ∙ t in
+      cc
+  of_end None m i t = no_more (records_from file p.at) m
 
-  pub all_handed_on : l.turn ≡ AllTaken → number ≡ length (pieces file)
+  pub all_handed_on : l.turn ≡ None → number ≡ length (pieces file)
   unfolding turned record_texts
   all_handed_on t =
       let none : records_from file p.at ≡ [] = of_end (first_met (records_from file p.at)) refl e t in

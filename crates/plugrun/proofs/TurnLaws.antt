@@ -1,5 +1,6 @@
 -- Laws of one turn: the text of an answer, and the record that was taken.
 -- Assumes nothing.
+use Rattle.std.specs.Prelude.{Some}
 use mathlib.Core.Path.{◌≡◌, refl, ap, ◌∙◌}
 use mathlib.Core.List.{List}
 use Prim.Native.Nat.{ℕ, ◌+◌, ◌-◌, ◌≤◌}
@@ -21,7 +22,7 @@ use Rattle.plug.specs.declared.answer.Outcome.TheVariants.{Answered, StartedRese
 use Rattle.plug.specs.Step.{Board, Result, next, pages, step}
 use Rattle.plug.specs.Answered.{answer_of, Stepped}
 use Rattle.plugrun.specs.Written.{word_of, answer_text, record_text, asked}
-use Rattle.plugrun.specs.Turn.{Took, most_answer, most_text, progress, left, took, turned, EachTurn, answered_text}
+use Rattle.plugrun.specs.Turn.{turn_of, most_answer, most_text, progress, left, took, turned, EachTurn, answered_text}
 use Rattle.plugrun.proofs.LongestLaws.{answer_short, step_whole}
 
 -- what was laid over the front of a memory
@@ -86,7 +87,7 @@ module _ (file : List ℕ) (number start end n : ℕ) (b : Board) (a : Answer) (
       (omega (arith, count, front), omega (arith, count, short))
 
   pub took_turn : (size : ℕ) (room₀ room : List ℕ) → Stands 0 (answered_text number a reply) room₀ size room
-      → left (Took (progress a.config end) size) f reply room ≡ took file number b reply₀ room₀ start end
+      → left (Some (turn_of (progress a.config end) size)) f reply room ≡ took file number b reply₀ room₀ (span start end)
   unfolding r
   took_turn size room₀ room w =
       let front : take a.length reply ≡ r.text = rw (count, held) (text_front r.text reply₀) in

@@ -1,19 +1,16 @@
 -- One turn of the run as the code gives it: the next record of the file is taken. Assumes nothing: these are definitions and
 -- statements.
-use Rattle.std.specs.Prelude.{if◌then◌else◌, ◌≡◌, List, [], ◌∷◌, ◌++◌, ℕ, ◌+◌, ◌≤◌, ◌<◌, ltb, length, take, drop, get_or}
+use Rattle.std.specs.Prelude.{if◌then◌else◌, ◌≡◌, Option, Some, None, List, [], ◌∷◌, ◌++◌, ℕ, ◌+◌, ◌≤◌, ◌<◌, ltb, length, take, drop, get_or}
 use Rattle.words.specs.Words.{overlay}
 use Rattle.lines.specs.Line.{head_line, most_head}
 use Rattle.memory.specs.Pages.{store_all}
 use Rattle.listing.specs.Records.{Span, span, most_file, records_from, first_met}
-use Rattle.listing.specs.declared.walk.Met.{Met}
-use Rattle.listing.specs.declared.walk.Met.TheVariants.{Record, NoMore}
 use Rattle.plug.specs.declared.board.Config.{Config}
 use Rattle.plug.specs.declared.answer.Answer.{Answer}
 use Rattle.plug.specs.Step.{Board, board, Result, next, answer, step}
 use Rattle.plugrun.specs.Written.{word_of, answer_text, record_text, asked, start_config, start_board, pieces, in_a_row, written}
 pub use Rattle.plugrun.specs.declared.turn.Progress.{Progress}
 pub use Rattle.plugrun.specs.declared.turn.Turn.{Turn}
-pub use Rattle.plugrun.specs.declared.turn.Turn.TheVariants.{Took, AllTaken}
 
 -- the longest answer is a display of all flash: 4,096 lines of 32 digits and 7 other characters
 abbrev pub most_answer : ℕ
@@ -42,14 +39,18 @@ pub record StartPlaces : Type 0 where
   pub at_its_beginning : (file : List ℕ) → length file ≤ 1048576 → start_place file ≡ 0
   pub with_its_board : (file : List ℕ) → start_progress file ≡ record { config = (start_board file).config; at = start_place file }
 
--- what a turn gives, and each lent memory after it
+-- a record was taken: what the next turn starts from, and how many bytes its text has
+abbrev pub turn_of : Progress → ℕ → Turn
+turn_of p n = record { progress = p; size = n }
+
+-- what a turn gives, none where no record was left, and each lent memory after it
 pub record Left : Type 0 where
-  pub turn : Turn
+  pub turn : Option Turn
   pub flash : List ℕ
   pub reply : List ℕ
   pub room : List ℕ
 
-abbrev pub left : Turn → List ℕ → List ℕ → List ℕ → Left
+abbrev pub left : Option Turn → List ℕ → List ℕ → List ℕ → Left
 left t f reply room = record { turn = t; flash = f; reply = reply; room = room }
 
 -- the board in the middle of a run
@@ -57,16 +58,16 @@ abbrev pub board_at : Progress → List ℕ → Board
 board_at p f = board p.config f
 
 -- the record that lies there is taken: its answer at the front of `reply`, its text at the front of `room`
-abbrev pub took : List ℕ → ℕ → Board → List ℕ → List ℕ → ℕ → ℕ → Left
-took file number b reply room start end =
-    let r : Result = asked file (span start end) b in
-    left (Took (progress r.config end) (length (record_text number r)))
+abbrev pub took : List ℕ → ℕ → Board → List ℕ → List ℕ → Span → Left
+took file number b reply room s =
+    let r : Result = asked file s b in
+    left (Some (turn_of (progress r.config s.end) (length (record_text number r))))
     (next b r).flash (overlay 0 r.text reply) (overlay 0 (record_text number r) room)
 
 -- by what the walk met
-abbrev pub met_turn : List ℕ → ℕ → Board → List ℕ → List ℕ → Met → Left
-met_turn file number b reply room NoMore = left AllTaken b.flash reply room
-met_turn file number b reply room (Record start end) = took file number b reply room start end
+abbrev pub met_turn : List ℕ → ℕ → Board → List ℕ → List ℕ → Option Span → Left
+met_turn file number b reply room None = left None b.flash reply room
+met_turn file number b reply room (Some s) = took file number b reply room s
 
 -- the turn of the record that comes from the place of p on, to which the text gives this number
 unfoldable pub turned : List ℕ → ℕ → Progress → List ℕ → List ℕ → List ℕ → Left
@@ -76,12 +77,12 @@ turned file number p f reply room = met_turn file number (board_at p f) reply ro
 -- the room, and where none is left nothing moves
 pub record TurnsTold (file : List ℕ) (number : ℕ) (p : Progress) (f reply room : List ℕ) : Type 0 where
   pub all_taken : records_from file p.at ≡ []
-      → turned file number p f reply room ≡ record { turn = AllTaken; flash = f; reply = reply; room = room }
+      → turned file number p f reply room ≡ record { turn = None; flash = f; reply = reply; room = room }
   pub took : (start end : ℕ) (ss : List Span) → records_from file p.at ≡ span start end ∷ ss
       → let r : Result = asked file (span start end) (board p.config f) in
       let text = record_text number r in
       turned file number p f reply room ≡ record {
-        turn = Took (record { config = r.config; at = end }) (length text);
+        turn = Some (record { progress = record { config = r.config; at = end }; size = length text });
         flash = store_all r.stored f;
         reply = r.text ++ drop (length r.text) reply;
         room = text ++ drop (length text) room;
@@ -91,7 +92,7 @@ pub record EachTurn : Type 0 where
   pub turns : (file : List ℕ) (number : ℕ) (p : Progress) (f reply room : List ℕ) → TurnsTold file number p f reply room
   -- the room for an answer, and the one for its text
   pub rooms : (most_answer ≡ 159744) × (most_text ≡ 159810)
-  pub of_left : (t : Turn) (f reply room : List ℕ) → left t f reply room ≡ record { turn = t; flash = f; reply = reply; room = room }
+  pub of_left : (t : Option Turn) (f reply room : List ℕ) → left t f reply room ≡ record { turn = t; flash = f; reply = reply; room = room }
 
 -- the text of an answer whose characters stand at the front of the buffer
 abbrev pub answered_text : ℕ → Answer → List ℕ → List ℕ

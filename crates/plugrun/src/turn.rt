@@ -1,5 +1,5 @@
 // One turn of the run: the next record of the file is taken, and its text is written.
-ghost use Rattle.std.specs.Prelude.{◌≡◌, ◌++◌, ◌+◌, ◌≤◌, length};
+ghost use Rattle.std.specs.Prelude.{◌≡◌, Some, ◌++◌, ◌+◌, ◌≤◌, length};
 ghost use Rattle.lines.specs.Text.{ascii};
 ghost use Rattle.lines.specs.Room.{Stands};
 ghost use Rattle.plug.specs.Answers.{hex_address};
@@ -8,7 +8,7 @@ ghost use Rattle.plugrun.specs.Written.{word_of, answer_text};
 ghost use Rattle.plugrun.specs.Turn.{most_answer, most_text, left, took, turned, answered_text};
 
 use lines::{Word, end_of, hex_text, plain_text};
-use listing::{Met, next_record};
+use listing::{Span, next_record};
 use memory::FlashAddress;
 use plug::{Answer, Config, Outcome};
 use printing::head_line;
@@ -21,17 +21,17 @@ pub const MOST_ANSWER: usize = 159744;
 pub const MOST_TEXT: usize = 66 + MOST_ANSWER;
 
 // The configuration, and the place in the file from which on the next record is looked for.
-#[derive(Clone, Copy)]
+#[derive(Clone, Copy, Debug, PartialEq, Eq)]
 pub struct Progress {
     pub config: Config,
     pub at: usize,
 }
 
-#[derive(Clone, Copy)]
-pub enum Turn {
-    // A record was taken: what the next turn starts from, and how many bytes its text has.
-    Took(Progress, usize),
-    AllTaken,
+// A record was taken: what the next turn starts from, and how many bytes its text has.
+#[derive(Clone, Copy, Debug, PartialEq, Eq)]
+pub struct Turn {
+    pub progress: Progress,
+    pub size: usize,
 }
 
 fn word_of(outcome: Outcome) -> Word
@@ -84,30 +84,26 @@ fn write_text(number: usize, answer: Answer, reply: &[u8], room: &mut [u8]) -> u
 // Takes the record whose characters lie there.
 fn take_record(
     file: &[u8],
-    start: usize,
-    end: usize,
+    span: Span,
     number: usize,
     config: Config,
     flash: &mut [u8],
     reply: &mut [u8],
     room: &mut [u8],
 ) -> Turn
-    requires start_le_end { (start ≤ end) × (end ≤ length file.now) }
+    requires start_le_end { (span.start ≤ span.end) × (span.end ≤ length file.now) }
     requires most_answer_in_bounds { (most_answer ≤ length reply.old) × (most_text ≤ length room.old) }
     ensures { let b = board config flash.old in
-        left result flash.new reply.new room.new
-        ≡ took file.now number b reply.old room.old start end }
+        left (Some result) flash.new reply.new room.new
+        ≡ took file.now number b reply.old room.old span }
 {
-    let answer = step(config, &file[start..end], flash, reply);
+    let answer = step(config, &file[span.start..span.end], flash, reply);
     let size = write_text(number, answer, reply, room);
-    let after = answer.config;
-    Turn::Took(
-        Progress {
-            config: after,
-            at: end,
-        },
-        size,
-    )
+    let progress = Progress {
+        config: answer.config,
+        at: span.end,
+    };
+    Turn { progress, size }
 }
 
 // Takes the next record of a file of any bytes on a board of any configuration and flash: its answer comes to the front of `reply`, its
@@ -119,16 +115,11 @@ pub fn take_turn(
     flash: &mut [u8],
     reply: &mut [u8; MOST_ANSWER],
     room: &mut [u8; MOST_TEXT],
-) -> Turn
+) -> Option<Turn>
     ensures { left result flash.new reply.new room.new
         ≡ turned file.now number progress flash.old reply.old room.old }
 {
+    let span = next_record(file, progress.at)?;
     let config = progress.config;
-    let from = progress.at;
-    match next_record(file, from) {
-        Met::Record(start, end) => take_record(
-            file, start, end, number, config, flash, reply, room,
-        ),
-        Met::NoMore => Turn::AllTaken,
-    }
+    Some(take_record(file, span, number, config, flash, reply, room))
 }

@@ -1,6 +1,6 @@
 -- `listing::count::count_records` meets its contract.
 -- Assumes nothing.
-use Rattle.std.proofs.Common.{sym, arith}
+use Rattle.std.proofs.Common.{sym, ◌∙◌, arith}
 use borrow.Author.Tests.{lt-ltb, le-ltb}
 use Rattle.listing.specs.Records.{records_of}
 use Rattle.listing.proofs.RecordsLaws.{steps, counted_one, counted_all}
@@ -10,15 +10,15 @@ pub returns-then-file-gt-MOST_FILE : goal.returns-then-file-gt-MOST_FILE
 unfolding records_of
 returns-then-file-gt-MOST_FILE c = simp (lt-ltb _ _ c.if-file-gt-MOST_FILE.true)
 
-pub loop-end-smaller : goal.loop-end-smaller
-loop-end-smaller c = let s = steps _ _ _ _ (sym c.in-Record.ensures) in omega (arith, s.after, s.some, s.within)
+pub loop-span-smaller : goal.loop-span-smaller
+loop-span-smaller c = let s = steps _ _ _ _ (sym c.in-Some.ensures) in omega (arith, s.after, s.some, s.within)
 
-pub loop-end-preserved : goal.loop-end-preserved
-loop-end-preserved c =
-    let s = steps _ _ _ _ (sym c.in-Record.ensures) in
-    (counted_one _ _ _ c.loop-end.invariant.0 _ _ (sym c.in-Record.ensures), omega (arith, s.after, s.some), s.within)
+pub loop-span-preserved : goal.loop-span-preserved
+loop-span-preserved c =
+    let s = steps _ _ _ _ (sym c.in-Some.ensures) in
+    (counted_one _ _ _ c.loop-span.invariant.0 _ _ (sym c.in-Some.ensures), omega (arith, s.after, s.some), s.within)
 
-pub returns-in-NoMore : goal.returns-in-NoMore
+pub returns : goal.returns
 unfolding records_of
-returns-in-NoMore c =
-    simp (le-ltb _ _ c.if-file-gt-MOST_FILE.false) (counted_all _ _ _ c.loop-end.invariant.0 (sym c.in-NoMore.ensures))
+returns c =
+    simp (le-ltb _ _ c.if-file-gt-MOST_FILE.false) (counted_all _ _ _ c.loop-span.invariant.0 (sym c.next_record.ensures ∙ c.in_default.is))

@@ -1,6 +1,6 @@
 -- `listing::walk::next_record` meets its contract.
 -- Assumes nothing.
-use Rattle.listing.proofs.RecordsLaws.{turn_none, turn_record, turn_other, turn_last}
+use Rattle.listing.proofs.RecordsLaws.{turn_none, turn_record, turn_other}
 use Rattle.listing.proofs.walk.next_record.Goals as goal
 
 pub returns-then-is_record : goal.returns-then-is_record
@@ -8,12 +8,6 @@ returns-then-is_record c =
     turn_record
     _ _ _ c.loop-at.invariant _ _ _ c.loop-at-test.true c.line_end-feed.ensures.value c.without_return-end.ensures.value
     c.is_record.ensures c.if-is_record.true
-
-pub returns-then-feed-file : goal.returns-then-feed-file
-returns-then-feed-file c =
-    turn_last
-    _ _ _ c.loop-at.invariant _ _ _ c.loop-at-test.true c.line_end-feed.ensures.value c.without_return-end.ensures.value
-    c.is_record.ensures c.if-is_record.false c.if-feed-file.true
 
 pub loop-at-preserved : goal.loop-at-preserved
 loop-at-preserved c =

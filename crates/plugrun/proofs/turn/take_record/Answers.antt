@@ -6,9 +6,9 @@ use Rattle.plugrun.proofs.turn.take_record.Goals as goal
 pub write_text-size-requires-clause-length_in_bounds : goal.write_text-size-requires-clause-length_in_bounds
 write_text-size-requires-clause-length_in_bounds c =
     let a = c.args in
-    length_fits a.file.now a.number a.start a.end _ _ _ _ _ _ c.requires.most_answer_in_bounds.0 c.step-answer.ensures
+    length_fits a.file.now a.number a.span.start a.span.end _ _ _ _ _ _ c.requires.most_answer_in_bounds.0 c.step-answer.ensures
 
 pub returns : goal.returns
 returns c =
     let a = c.args in
-    took_turn a.file.now a.number a.start a.end _ _ _ _ _ _ c.requires.most_answer_in_bounds.0 c.step-answer.ensures _ _ _ c.write_text-size.ensures
+    took_turn a.file.now a.number a.span.start a.span.end _ _ _ _ _ _ c.requires.most_answer_in_bounds.0 c.step-answer.ensures _ _ _ c.write_text-size.ensures

@@ -7,12 +7,12 @@ use Rattle.plugrun.specs.Turn.{turned}
 use Rattle.plugrun.proofs.turn.take_turn.Goals as goal
 
 pub take_record-requires-clause-start_le_end : goal.take_record-requires-clause-start_le_end
-take_record-requires-clause-start_le_end c = let s = steps _ _ _ _ (sym c.in-Record.ensures) in (omega (arith, s.some), s.within)
+take_record-requires-clause-start_le_end c = let s = steps _ _ _ _ (sym c.in_ok-span.ensures) in (omega (arith, s.some), s.within)
 
-pub returns-in-Record : goal.returns-in-Record
+pub returns-in_ok-span : goal.returns-in_ok-span
 unfolding turned
-returns-in-Record c = rw (sym c.in-Record.ensures) c.take_record.ensures
+returns-in_ok-span c = rw (sym c.in_ok-span.ensures) c.take_record.ensures
 
-pub returns-in-NoMore : goal.returns-in-NoMore
+pub returns-in_err-span : goal.returns-in_err-span
 unfolding turned
-returns-in-NoMore c = rw (sym c.in-NoMore.ensures)
+returns-in_err-span c = rw (sym c.in_err-span.ensures)
