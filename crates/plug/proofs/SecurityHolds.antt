@@ -47,7 +47,7 @@ offset_free kind offset other d h = rw (ne_eqb kind 0x00 h)
 
 pub security : Security
 security = record {
-  all_at_0 = λ k. le-leb 0 (highest k) zero-le;
+  all_at_0 = λ k. le-leb 0 (level_number (highest k)) zero-le;
   flash_written = λ a. (refl, refl, refl);
   flash_read = λ a e. (refl, refl, refl);
   block_erased = λ k. (refl, refl, refl);
