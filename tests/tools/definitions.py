@@ -136,7 +136,7 @@ SIGNS = {
 
 
 def is_case(name):
-    return name[0].isupper() or name in PLAIN or name in ("none", "some", "suc")
+    return name[0].isupper() or name in PLAIN or name in ("suc",)
 
 
 def matches(pattern, value):

@@ -57,4 +57,4 @@ def taken(source, data, ssb):
     """A command is taken where the definitions accept it and set no error status."""
     result = source.ask(DNLOAD, len(data), data, ssb=ssb, flash=[0x00, *source.flash[1:]])
     numbers = [source.given("numbers:pack_outcome", result["outcome"]), source.given("pack_session", result["session"])]
-    return "taken", numbers, [int(result["accepted"] != ("none",) and result["session"]["status"] == 0)]
+    return "taken", numbers, [int(result["accepted"] != ("None",) and result["session"]["status"] == 0)]

@@ -144,7 +144,7 @@ class Plug:
                 told = (cases(0)[words.split(" from ")[0]][0], *map(address, found))
             else:
                 told = cases(0)[words]
-            self.same(self.given("plug:command_of", sent), ("some", told), f"{characters}")
+            self.same(self.given("plug:command_of", sent), ("Some", told), f"{characters}")
 
     # ---- the commands
 
@@ -154,7 +154,7 @@ class Plug:
                 self.same(len(filled(template, 0)), number(length), f"the length of {template}")
         for phrase, case, kind, data, _ in self.rows():
             for offset in (0, A):
-                told = ("some", ("Program", address(offset)) if kind == 0 else case)
+                told = ("Some", ("Program", address(offset)) if kind == 0 else case)
                 self.same(self.given("plug:form", kind, offset, data), told, f"{phrase}, with offset {offset:04X}h")
         (program,) = [row for row in self.table("Commands") if row[0] == "00h"]
         least, most = numbers(program[1])
@@ -172,7 +172,7 @@ class Plug:
         for kind, n, first, second, last in some:
             data = [first, second, 0, 0, 0, 0][: max(n - 1, 0)] + [last] * (n > 0)
             told = any(fits(template, data) for template in templates.get(kind, []))
-            self.same(self.given("plug:form", kind, 0, data)[0] == "some", told, f"that type {kind:02X}h with {data} is a command")
+            self.same(self.given("plug:form", kind, 0, data)[0] == "Some", told, f"that type {kind:02X}h with {data} is a command")
 
     def answers_of_commands(self):
         """Each row's answer, on a board at level 0."""
@@ -191,7 +191,7 @@ class Plug:
                 told = texts[answer]
             self.same(found, told, f"the answer to {phrase}")
             started = {"StartReset": ("StartedReset",), "StartAt": ("StartedAt", address(AT))}.get(case[0], ("Answered",))
-            self.same((result["outcome"], result["done"]), (started, ("some", case)), f"the outcome of {phrase}")
+            self.same((result["outcome"], result["done"]), (started, ("Some", case)), f"the outcome of {phrase}")
 
     # ---- levels
 
@@ -217,7 +217,7 @@ class Plug:
             for level, (ssb, cell) in enumerate(zip((0xFF, 0xFE, 0xFC), cells, strict=True)):
                 self.same(self.given("plug:allowed", case, (f"L{level}",)), {"yes": True, "P": False}[cell], f"{phrase} at level {level}")
                 result = self.step(self.board(ssb=ssb), record(kind, data, A))
-                refused = (bytes(result["text"]), result["done"]) == (b"P\r\n", ("none",))
+                refused = (bytes(result["text"]), result["done"]) == (b"P\r\n", ("None",))
                 self.same(refused, cell == "P", f"that {phrase} gets P at level {level}")
                 after = self.given("level_number", self.given("plug:level", result["config"]))
                 self.same(after >= level or phrase == "full chip erase", True, f"that {phrase} does not lower level {level}")
@@ -228,13 +228,13 @@ class Plug:
         rows = {row[0]: row for row in self.table("Answers")}
         self.same(["`.`", "a value", "an address", "lines", "X", "P", "none"], list(rows), "the answers")
         self.same([13, 10], self.given("plug:line_end"), "CR and LF")
-        blank = [value for value in range(256) if self.given("used_in", 0, 0, [value]) == ("none",)]
+        blank = [value for value in range(256) if self.given("used_in", 0, 0, [value]) == ("None",)]
         self.same([blank, blank], [numbers(rows[name][3]) for name in ("`.`", "an address")], "the byte that is blank")
         refused = self.step(self.board(), record(0x06, []))["text"]
         made = {
             "`.`": [(self.given("plug:done_text"), "a full stop", ".")],
             "a value": [(self.given("plug:value_text", v), "two hex digits and a full stop", f"{v:02X}.") for v in range(256)],
-            "an address": [(self.given("plug:blank_text", ("some", x)), "four hex digits", f"{x:04X}") for x in (0, 0x9A, 0xBCDE, 0xFFFF)],
+            "an address": [(self.given("plug:blank_text", ("Some", x)), "four hex digits", f"{x:04X}") for x in (0, 0x9A, 0xBCDE, 0xFFFF)],
             "X": [(self.given("plug:wrong_checksum_text"), "the letter", "X")],
             "P": [(self.given("plug:security_text"), "the letter", "P")],
             "none": [(self.step(self.board(), record(0x03, [3, 0]))["text"], "no line end either", ""), (refused, "no line end either", "")],
@@ -292,7 +292,7 @@ class Plug:
                 for room in (0, 2, 3, 4):
                     result, short = self.step(board, characters, room), room < len(text)
                     found = result["outcome"], bytes(result["text"]), result["stored"], result["config"], result["done"]
-                    right = ("Refused", instead) if short else told, b"" if short else text, [], board["config"], ("none",)
+                    right = ("Refused", instead) if short else told, b"" if short else text, [], board["config"], ("None",)
                     self.same(found, right, f"{bytes(characters)[:24]}, wrong in {', '.join(bad)}, with a room of {room}")
 
     def room(self):
