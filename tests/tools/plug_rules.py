@@ -106,20 +106,24 @@ class Plug:
             self.same((len(made), len(made) // 2), (least + each * n, fixed + n), f"the characters and bytes of a record with {n} bytes")
             self.same(self.given("record:record_of", 0x2A35, 0x04, data), made, f"a record with {n} bytes of data")
             self.same(self.given("record:sum", self.given("record:bytes_of", made)) % modulo, rest, f"the sum of a record with {n} bytes")
-            taken = ("Taken", {"offset": 0x2A35, "kind": 0x04, "length": n})
+            taken = ("Ok", {"offset": 0x2A35, "kind": 0x04, "length": n})
             for characters in (made, list(bytes(made).lower())):
                 self.same(self.given("record:reading", characters), taken, f"the fields of {bytes(characters)}")
                 self.same(self.given("record:data_read", taken, characters), data, f"the data of {bytes(characters)}")
+
+    def reading_number(self, characters):
+        """The number of what the reader finds in these characters, 0 for a record that it takes."""
+        return self.given("record:reading_number", self.given("record:reading", characters))
 
     def characters(self):
         """Nothing but a colon and hex digits stands in a record, and as many as its length says."""
         made, digits = record(0x05, [0x07, 0x00]), b"0123456789ABCDEFabcdef"
         for character, at in itertools.product(range(256), (0, 3, len(made) - 1)):
-            found = self.given("record:reading", [*made[:at], character, *made[at + 1 :]])
+            found = self.reading_number([*made[:at], character, *made[at + 1 :]])
             good = character == ord(":") if at == 0 else character in digits
-            self.same(found != ("Refused", 17), good, f"that character {character} may stand at {at}")
+            self.same(found != 17, good, f"that character {character} may stand at {at}")
         for other in (made[:-1], made[:-2], [*made, 48], [*made, 48, 48], [*made, 13, 10], [32, *made], made[1:], []):
-            self.same(self.given("record:reading", other), ("Refused", 17), f"what {bytes(other)} gives")
+            self.same(self.reading_number(other), 17, f"what {bytes(other)} gives")
 
     def checksum(self):
         whole, same_whole, written = self.sentence(r"The checksum by hand: .*? is written \d+")
@@ -128,11 +132,13 @@ class Plug:
             told = written if whole - sums == whole else whole - sums
             self.same(self.given("record:checksum", [sums]), told, f"the checksum of {sums:02X}h")
             wrong = self.given("record:reading", record(0x05, [0x07, 0x00], more=sums))
-            self.same(wrong == ("WrongChecksum",), sums != 0, f"that a checksum with {sums} more is wrong")
+            self.same(wrong == ("Err", ("WrongChecksum",)), sums != 0, f"that a checksum with {sums} more is wrong")
         most, bad, short = self.sentence(r"The project's record writer refuses [^.]*")
-        tries = ((most + 1, 0, ("Unwritten", bad)), (most, 2 * most + 10, ("Unwritten", short)), (most, 2 * most + 11, ("Wrote", 2 * most + 11)))
+        tries = ((most + 1, 0, (bad, 0)), (most, 2 * most + 10, (short, 0)), (most, 2 * most + 11, (0, 2 * most + 11)))
         for n, room, told in tries:
-            self.same(self.given("record:write_record", 0, 0, [0] * n, [0] * room), told, f"{n} bytes written into {room} characters")
+            written = self.given("record:write_record", 0, 0, [0] * n, [0] * room)
+            found = self.given("record:written_number", written), self.given("record:written_count", written)
+            self.same(found, told, f"{n} bytes written into {room} characters")
 
     def examples(self):
         for characters, words in self.table("A record", 1):
