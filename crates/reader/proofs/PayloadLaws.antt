@@ -1,42 +1,27 @@
 -- What a judgement tells of a payload, and what the reader answers for it.
 -- Assumes nothing.
-use Rattle.std.specs.Prelude.{if◌then◌else◌, Option, None, Some}
-use mathlib.Core.Path.{◌≡◌, refl, ap, subst}
+use Rattle.std.specs.Prelude.{if◌then◌else◌, Option, None, Some, Ok, Err, IsErrAnd}
+use mathlib.Core.Path.{◌≡◌, refl, sym, ap, ◌∙◌, subst}
 use mathlib.Core.Bool.{Bool, true, false}
 use mathlib.Core.List.{List}
 use Prim.Native.Nat.{ℕ}
 use lib.ListN.{length}
 use native.Mathlib.Omega.{arith}
-use Rattle.command.specs.Form.{form, form_of}
-use Rattle.command.specs.declared.form.Form.TheVariants as F
+use Rattle.command.specs.Form.{form}
 use Rattle.command.specs.Address.{bad_address}
 use Rattle.command.specs.Transfer.{bad_length}
-use Rattle.command.specs.Reader.{read_form, read_command, parts_of}
+use Rattle.std.specs.Option.{ok_or}
+use Rattle.command.specs.declared.reader.Fault.{Fault}
+use Rattle.command.specs.declared.reader.Fault.TheVariants.{Stall}
+use Rattle.command.specs.Reader.{Reading, read_form, read_command, parts_of}
 use Rattle.command.specs.declared.command.Command.{Command}
 use Rattle.command.specs.declared.reader.Parts.{Parts}
-use Rattle.reader.specs.Payload.{Fit, Fits, BadAddress, WrongLength, Is, Unlisted, fit, judged, judgement, reading}
+use Rattle.reader.specs.Payload.{Fit, Judgement, BadAddress, WrongLength, fit, judged, judgement, reading}
 use Rattle.reader.specs.Payload.{reading_of, ReadAsJudged}
 
--- the judgement of a form
-formed : (o : Option Command) (k : Command) (l : ℕ) → form_of o ≡ F.Is k → Is k (fit k l) ≡ judged o l
-formed None k l q = absurd (let z : ◌≡◌ {A = ℕ} 0 1 = cc in omega arith)
-formed (Some j) k l q = let same : j ≡ k = cc in rw same
-
-formless : (o : Option Command) (l : ℕ) → form_of o ≡ F.Unlisted → Unlisted ≡ judged o l
-formless None l q = refl
-formless (Some j) l q = absurd (let z : ◌≡◌ {A = ℕ} 0 1 = cc in omega arith)
-
-pub listed : (d : List ℕ) (k : Command) (f : Fit) → form_of (form d) ≡ F.Is k → f ≡ fit k (length d) → Is k f ≡ judgement d
-unfolding judgement
-listed d k f q r = rw r (formed (form d) k (length d) q)
-
-pub unlisted : (d : List ℕ) → form_of (form d) ≡ F.Unlisted → Unlisted ≡ judgement d
-unfolding judgement
-unlisted d q = formless (form d) (length d) q
-
 -- two tests, asked in one order by the judge and by the reader's definition
-tests : (k : Command) (p : Parts) (t u : Bool) → reading k (if t then BadAddress else if u then WrongLength else Fits p)
-    ≡ (if t then reading k BadAddress else if u then reading k WrongLength else reading k (Fits p))
+tests : (k : Command) (p : Parts) (t u : Bool) → reading k (if t then Err BadAddress else if u then Err WrongLength else Ok p)
+    ≡ (if t then reading k (Err BadAddress) else if u then reading k (Err WrongLength) else reading k (Ok p))
 tests k p true u = refl
 tests k p false true = refl
 tests k p false false = refl
@@ -59,34 +44,47 @@ read_judged = record {
   read = λ d. by_form (form d) d;
 }
 
+-- the reader's answer to a payload that is judged so, and what a `?` returns
+pub read_as : (d : List ℕ) (j : Judgement) → judgement d ≡ j → reading_of j ≡ read_command d
+read_as d j q = ap reading_of (sym q) ∙ read_judged.read d
+
+pub stalled : (d : List ℕ) (j : Judgement) (f : Fault) → judgement d ≡ j → ok_or j Stall ≡ Err f → Err f ≡ read_command d
+stalled d None f q e = let same : f ≡ Stall = cc in rw same (read_as d None q)
+stalled d (Some j) f q e = absurd (let z : ◌≡◌ {A = ℕ} 0 1 = cc in omega arith)
+
+pub passed_on : (r : Reading) (f : Fault) → IsErrAnd r (λ e. e ≡ f) → r ≡ Err f
+passed_on (Ok x) f q = absurd q
+passed_on (Err e) f q = ap Err q
+
 -- what a judgement tells of the form
-is_of : (o : Option Command) (k : Command) (x : Fit) (l : ℕ) → judged o l ≡ Is k x → (o ≡ Some k) × (fit k l ≡ x)
+is_of : (o : Option Command) (k : Command) (x : Fit) (l : ℕ) → judged o l ≡ Some (k, x) → (o ≡ Some k) × (fit k l ≡ x)
 is_of None k x l q = absurd (let z : ◌≡◌ {A = ℕ} 0 1 = cc in omega arith)
 is_of (Some j) k x l q =
-    let same : j ≡ k = cc in
-    let told : fit j l ≡ x = cc in
+    let both : ◌≡◌ {A = Command × Fit} (j, fit j l) (k, x) = cc in
+    let same : j ≡ k = ap (λ (y : Command × Fit). y.0) both in
+    let told : fit j l ≡ x = ap (λ (y : Command × Fit). y.1) both in
     (ap Some same, rw same at told)
 
-none_of : (o : Option Command) (l : ℕ) → judged o l ≡ Unlisted → o ≡ None
+none_of : (o : Option Command) (l : ℕ) → judged o l ≡ None → o ≡ None
 none_of None l q = refl
 none_of (Some j) l q = absurd (let z : ◌≡◌ {A = ℕ} 0 1 = cc in omega arith)
 
-pub judged_is : (d : List ℕ) (k : Command) (x : Fit) → judgement d ≡ Is k x → (form d ≡ Some k) × (fit k (length d) ≡ x)
+pub judged_is : (d : List ℕ) (k : Command) (x : Fit) → judgement d ≡ Some (k, x) → (form d ≡ Some k) × (fit k (length d) ≡ x)
 unfolding judgement
 judged_is d k x q = is_of (form d) k x (length d) q
 
-pub judged_unlisted : (d : List ℕ) → judgement d ≡ Unlisted → form d ≡ None
+pub judged_unlisted : (d : List ℕ) → judgement d ≡ None → form d ≡ None
 unfolding judgement
 judged_unlisted d q = none_of (form d) (length d) q
 
 -- what a fit tells of address, length and parts
 abbrev pub Tells : Command → List ℕ → Fit → Type 0
-Tells k d (Fits p) = (bad_address k ≡ false) × (bad_length k d ≡ false) × (p ≡ parts_of k d)
-Tells k d BadAddress = bad_address k ≡ true
-Tells k d WrongLength = (bad_address k ≡ false) × (bad_length k d ≡ true)
+Tells k d (Ok p) = (bad_address k ≡ false) × (bad_length k d ≡ false) × (p ≡ parts_of k d)
+Tells k d (Err BadAddress) = bad_address k ≡ true
+Tells k d (Err WrongLength) = (bad_address k ≡ false) × (bad_length k d ≡ true)
 
 by_tests : (k : Command) (d : List ℕ) (t u : Bool) → bad_address k ≡ t → bad_length k d ≡ u
-    → Tells k d (if t then BadAddress else if u then WrongLength else Fits (parts_of k d))
+    → Tells k d (if t then Err BadAddress else if u then Err WrongLength else Ok (parts_of k d))
 by_tests k d true u a l = a
 by_tests k d false true a l = (a, l)
 by_tests k d false false a l = (a, l, refl)

@@ -1,15 +1,16 @@
 // The form of DNLOAD data: which command it is, by its first bytes and its length.
 ghost use Rattle.std.specs.Prelude.{◌≡◌};
-ghost use Rattle.command.specs.Form.{form, form_of, exactly, six_or_more, zero_third, flash_at, eeprom_at, flash_range, eeprom_range};
+ghost use Rattle.command.specs.Form.{form, exactly, six_or_more, zero_third, flash_at, eeprom_at, flash_range, eeprom_range};
 ghost use Rattle.command.specs.Form.{program_flash_form, program_eeprom_form, blank_form, erase_form, write_form, start_form, index_form};
 
-use command::{Command, Form};
+use command::Command;
 use memory::{Block, EepromAddress, FlashAddress, Range};
 
 // No row of the table is shorter.
 const SHORTEST: usize = 3;
 
 // The address of flash, and of EEPROM, that stands at a place.
+// Stays: these, the ranges and the program commands come in pairs, since 02's P4 wants each memory to have addresses and a command of its own.
 fn flash_at(sent: &[u8], at: u16) -> FlashAddress
     ensures { result ≡ flash_at sent.now at }
 {
@@ -36,62 +37,55 @@ fn eeprom_range(sent: &[u8]) -> Range
 }
 
 // A command whose data has to be n bytes.
-fn exact(sent: &[u8], n: usize, command: Command) -> Form
-    ensures { result ≡ form_of (exactly n sent.now command) }
+fn exact(sent: &[u8], n: usize, command: Command) -> Option<Command>
+    ensures { result ≡ exactly n sent.now command }
 {
-    if sent.len() == n {
-        return Form::Is(command);
-    }
-    Form::Unlisted
+    (sent.len() == n).then_some(command)
 }
 
 // A command whose data has to be six bytes or more.
-fn six_or_more(sent: &[u8], command: Command) -> Form
-    ensures { result ≡ form_of (six_or_more sent.now command) }
+fn six_or_more(sent: &[u8], command: Command) -> Option<Command>
+    ensures { result ≡ six_or_more sent.now command }
 {
-    if 6 <= sent.len() {
-        return Form::Is(command);
-    }
-    Form::Unlisted
+    (6 <= sent.len()).then_some(command)
 }
 
 // A command whose third byte has to be 00h.
-fn zero_third(sent: &[u8], n: usize, command: Command) -> Form
-    ensures { result ≡ form_of (zero_third n sent.now command) }
+fn zero_third(sent: &[u8], n: usize, command: Command) -> Option<Command>
+    ensures { result ≡ zero_third n sent.now command }
 {
-    let code = words::byte_at(sent, 2);
-    if code != 0x00 {
-        return Form::Unlisted;
+    if words::byte_at(sent, 2) != 0x00 {
+        return None;
     }
     exact(sent, n, command)
 }
 
-fn program_flash_form(sent: &[u8]) -> Form
-    ensures { result ≡ form_of (program_flash_form sent.now) }
+fn program_flash_form(sent: &[u8]) -> Option<Command>
+    ensures { result ≡ program_flash_form sent.now }
 {
     let start = flash_at(sent, 2);
     let end = flash_at(sent, 4);
     six_or_more(sent, Command::ProgramFlash(start, end))
 }
 
-fn program_eeprom_form(sent: &[u8]) -> Form
-    ensures { result ≡ form_of (program_eeprom_form sent.now) }
+fn program_eeprom_form(sent: &[u8]) -> Option<Command>
+    ensures { result ≡ program_eeprom_form sent.now }
 {
     let start = eeprom_at(sent, 2);
     let end = eeprom_at(sent, 4);
     six_or_more(sent, Command::ProgramEeprom(start, end))
 }
 
-fn blank_form(sent: &[u8]) -> Form
-    ensures { result ≡ form_of (blank_form sent.now) }
+fn blank_form(sent: &[u8]) -> Option<Command>
+    ensures { result ≡ blank_form sent.now }
 {
     let start = flash_at(sent, 2);
     let end = flash_at(sent, 4);
     exact(sent, 6, Command::BlankCheck(start, end))
 }
 
-fn erase_form(sent: &[u8]) -> Form
-    ensures { result ≡ form_of (erase_form sent.now) }
+fn erase_form(sent: &[u8]) -> Option<Command>
+    ensures { result ≡ erase_form sent.now }
 {
     let code = words::byte_at(sent, 2);
     match code {
@@ -99,48 +93,49 @@ fn erase_form(sent: &[u8]) -> Form
         0x20 => exact(sent, 3, Command::EraseBlock(Block::Middle)),
         0x40 => exact(sent, 3, Command::EraseBlock(Block::High)),
         0xFF => exact(sent, 3, Command::EraseChip),
-        _ => Form::Unlisted,
+        _ => None,
     }
 }
 
-fn write_form(sent: &[u8]) -> Form
-    ensures { result ≡ form_of (write_form sent.now) }
+fn write_form(sent: &[u8]) -> Option<Command>
+    ensures { result ≡ write_form sent.now }
 {
     let index = words::byte_at(sent, 2);
     let value = words::byte_at(sent, 3);
-    if config::is_writable(index) {
-        return exact(sent, 4, Command::WriteByte(index, value));
+    if !config::is_writable(index) {
+        return None;
     }
-    Form::Unlisted
+    exact(sent, 4, Command::WriteByte(index, value))
 }
 
-fn start_form(sent: &[u8]) -> Form
-    ensures { result ≡ form_of (start_form sent.now) }
+fn start_form(sent: &[u8]) -> Option<Command>
+    ensures { result ≡ start_form sent.now }
 {
     let code = words::byte_at(sent, 2);
     match code {
         0x00 => exact(sent, 3, Command::StartReset),
         0x01 => exact(sent, 5, Command::StartAt(flash_at(sent, 3))),
-        _ => Form::Unlisted,
+        _ => None,
     }
 }
 
-fn index_form(sent: &[u8]) -> Form
-    ensures { result ≡ form_of (index_form sent.now) }
+fn index_form(sent: &[u8]) -> Option<Command>
+    ensures { result ≡ index_form sent.now }
 {
     let index = words::byte_at(sent, 2);
-    if config::is_readable(index) {
-        return exact(sent, 3, Command::ReadByte(index));
+    if !config::is_readable(index) {
+        return None;
     }
-    Form::Unlisted
+    exact(sent, 3, Command::ReadByte(index))
 }
 
 // The command that the data is, by its form alone. Of all that the loader is sent, only this chooses the memory to program.
-pub(crate) fn form_of(sent: &[u8]) -> Form
-    ensures { result ≡ form_of (form sent.now) }
+#[tactic(auto, using(command::proofs::FormLaws::form_short), unfolding(command::specs::Form::form))]
+pub(crate) fn form_of(sent: &[u8]) -> Option<Command>
+    ensures { result ≡ form sent.now }
 {
     if sent.len() < SHORTEST {
-        return Form::Unlisted;
+        return None;
     }
     let code = words::high_at(sent, 0);
     match code {
@@ -156,6 +151,6 @@ pub(crate) fn form_of(sent: &[u8]) -> Form
         0x0500 => zero_third(sent, 3, Command::ReadVersion),
         0x0501 => index_form(sent),
         0x0502 => zero_third(sent, 3, Command::ReadHsb),
-        _ => Form::Unlisted,
+        _ => None,
     }
 }

@@ -7,5 +7,5 @@ mod form;
 mod payload;
 mod reader;
 
-pub use payload::{Fit, Judgement, fit_of, judge};
+pub use payload::{Misfit, fit_of, judge};
 pub use reader::{read_command, reading_status};

@@ -1,39 +1,36 @@
 // The loader's command reader.
 ghost use Rattle.std.specs.Prelude.{◌≡◌};
 ghost use Rattle.command.specs.Reader.{read_command, reading_status};
-ghost use Rattle.reader.specs.Payload.{reading};
+ghost use Rattle.reader.specs.Payload.{fault_of};
 
-use crate::payload::{Fit, Judgement, judge};
-use command::{BAD_ADDRESS_STATUS, Command, Reading, STALL_STATUS};
+use crate::payload::{Misfit, judge};
+use command::{Command, Fault, Parts};
 
-// The status of an answer.
-pub fn reading_status(reading: Reading) -> u8
-    ensures { result ≡ reading_status reading }
-{
-    match reading {
-        Reading::Taken(_, _) => 0x00,
-        Reading::Stalls => STALL_STATUS,
-        Reading::BadAddress => BAD_ADDRESS_STATUS,
+impl From<Misfit> for Fault {
+    ghost from_gives = { λ misfit fault. fault ≡ fault_of misfit };
+
+    fn from(misfit: Misfit) -> Fault {
+        match misfit {
+            Misfit::BadAddress => Fault::BadAddress,
+            Misfit::WrongLength => Fault::Stall,
+        }
     }
 }
 
-// What the reader says of a command that fits its data so.
-fn read_as(command: Command, fit: Fit) -> Reading
-    ensures { result ≡ reading command fit }
+// The status of an answer.
+pub fn reading_status(reading: Result<(Command, Parts), Fault>) -> u8
+    ensures { result ≡ reading_status reading }
 {
-    match fit {
-        Fit::Fits(parts) => Reading::Taken(command, parts),
-        Fit::BadAddress => Reading::BadAddress,
-        Fit::WrongLength => Reading::Stalls,
+    match reading {
+        Ok(_) => 0x00,
+        Err(fault) => fault.number(),
     }
 }
 
 // Reads the data of a DNLOAD: the command with its parts, stall or 08h.
-pub fn read_command(sent: &[u8]) -> Reading
+pub fn read_command(sent: &[u8]) -> Result<(Command, Parts), Fault>
     ensures { result ≡ read_command sent.now }
 {
-    match judge(sent) {
-        Judgement::Is(command, fit) => read_as(command, fit),
-        Judgement::Unlisted => Reading::Stalls,
-    }
+    let (command, fit) = judge(sent).ok_or(Fault::Stall)?;
+    Ok((command, fit?))
 }

@@ -1,12 +1,24 @@
 -- `reader::read_command` meets its contract: its answer is the judgement's.
 -- Assumes nothing.
-use Rattle.std.proofs.Common.{ap, ◌∙◌}
-use Rattle.reader.specs.Payload.{reading_of}
-use Rattle.reader.proofs.PayloadLaws.{read_judged}
+use Rattle.std.specs.Prelude.{Some}
+use Rattle.std.specs.Result.{result_ok}
+use Rattle.std.proofs.Common.{sym, ap, ◌∙◌}
+use Rattle.reader.specs.Payload.{fault_of, reading}
+use Rattle.reader.proofs.PayloadLaws.{read_as, stalled, passed_on}
 use Rattle.reader.proofs.reader.read_command.Goals as goal
 
-pub returns-in-Is : goal.returns-in-Is
-returns-in-Is c = c.read_as.ensures ∙ ap reading_of c.in-Is.ensures ∙ read_judged.read _
+pub returns-in_err-command : goal.returns-in_err-command
+returns-in_err-command c =
+    passed_on _ _ c.from_residual.ensures.1
+    ∙ stalled _ _ _ (sym c.judge.ensures) (sym c.ok_or.ensures.value ∙ c.in_err-command.was)
 
-pub returns-in-Unlisted : goal.returns-in-Unlisted
-returns-in-Unlisted c = ap reading_of c.in-Unlisted.ensures ∙ read_judged.read _
+pub returns-in_err-fit : goal.returns-in_err-fit
+returns-in_err-fit c =
+    passed_on _ (fault_of c.in_err-fit.field-0.0) c.from_residual-in_err-fit.ensures.1
+    ∙ ap (reading c.in_ok-command.command) (sym (c.in_err-fit.was))
+    ∙ read_as _ (Some (c.in_ok-command.command, c.in_ok-command.fit)) (sym c.judge.ensures ∙ c.ok_or.ensures.ok_part ∙ ap result_ok (c.in_ok-command.was))
+
+pub returns : goal.returns
+returns c =
+    ap (reading c.in_ok-command.command) (sym (c.in_ok-fit.was))
+    ∙ read_as _ (Some (c.in_ok-command.command, c.in_ok-command.fit)) (sym c.judge.ensures ∙ c.ok_or.ensures.ok_part ∙ ap result_ok (c.in_ok-command.was))
