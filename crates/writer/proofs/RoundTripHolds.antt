@@ -1,6 +1,6 @@
 -- The statements of specs/RoundTrip.antt hold.
 -- Assumes nothing.
-use Rattle.std.specs.Prelude.{if◌then◌else◌, Some}
+use Rattle.std.specs.Prelude.{if◌then◌else◌, Some, Ok, Err}
 use mathlib.Core.Path.{◌≡◌, refl, sym, ap, ◌∙◌, subst}
 use mathlib.Core.Bool.{Bool, true, false}
 use mathlib.Core.List.{List, [], ◌∷◌, ◌++◌, append_assoc, append-nil}
@@ -25,7 +25,7 @@ use Rattle.command.specs.Address.{bad_address}
 use Rattle.command.specs.Transfer.{laid, transfer_of, body_place, suffix_place, transfer_length, filler_size, suffix_size, padding, bad_length}
 use Rattle.command.specs.Transfer.{body_of, suffix_of}
 use Rattle.command.specs.Reader.{parts_of}
-use Rattle.writer.specs.Writer.{Wrote, Unwritten, zeros, no_tail, tail_for, head_bytes, command_bytes, bad_parts, bad_write, cannot_write, put_answer, put_room}
+use Rattle.writer.specs.Writer.{Written, WrongCommand, TooShort, zeros, no_tail, tail_for, head_bytes, command_bytes, bad_parts, bad_write, cannot_write, put_answer, put_room}
 use Rattle.writer.specs.Writer.{write_command, room_after}
 use Rattle.writer.specs.RoundTrip.{body_at, suffix_at, carried, ReadsAs, ReadsBack, ZeroPadded, ZeroFilled, Bytes, WritesBack}
 use Rattle.words.proofs.WordsLaws.{or_false}
@@ -45,16 +45,16 @@ pub record Was (k : Command) (d s room : List ℕ) (n : ℕ) : Type 0 where
   pub bytes : take n (room_after k d s room) ≡ command_bytes k d s
 
 was_put : (bytes room : List ℕ) (n : ℕ) (t : Bool) → ltb (length room) (length bytes) ≡ t
-    → (if t then Unwritten 9 else Wrote (length bytes)) ≡ Wrote n → take n (if t then room else overlay 0 bytes room) ≡ bytes
+    → (if t then Err TooShort else Ok (length bytes)) ≡ Ok n → take n (if t then room else overlay 0 bytes room) ≡ bytes
 was_put bytes room n true e q = absurd (let z : ◌≡◌ {A = ℕ} 0 1 = cc in omega arith)
 was_put bytes room n false e q =
     let l : length bytes ≡ n = cc in
     ap (take n) (overlay_front bytes room) ∙ take_at bytes (drop (length bytes) room) n l
 
-refused_not_wrote : (n : ℕ) → Unwritten 8 ≡ Wrote n → ⊥
+refused_not_wrote : (n : ℕ) → ◌≡◌ {A = Written} (Err WrongCommand) (Ok n) → ⊥
 refused_not_wrote n e = let z : ◌≡◌ {A = ℕ} 0 1 = cc in omega arith
 
-was_written : (k : Command) (d s room : List ℕ) (n : ℕ) (t : Bool) → cannot_write k d s ≡ t → write_command k d s room ≡ Wrote n → Was k d s room n
+was_written : (k : Command) (d s room : List ℕ) (n : ℕ) (t : Bool) → cannot_write k d s ≡ t → write_command k d s room ≡ Ok n → Was k d s room n
 unfolding write_command room_after put_answer put_room
 was_written k d s room n true c q = absurd (refused_not_wrote n (rw c at q))
 was_written k d s room n false c q =
@@ -292,7 +292,7 @@ module _ (p : List ℕ) (each : Bytes p) where
 -- what the writer answers, when nothing is wrong
 wrote : (k : Command) (d s room p : List ℕ) → bad_address k ≡ false → bad_write k (length d) (length s) ≡ false → command_bytes k d s ≡ p
     → length p ≤ length room
-    → (write_command k d s room ≡ Wrote (length p)) × (take (length p) (room_after k d s room) ≡ p)
+    → (write_command k d s room ≡ Ok (length p)) × (take (length p) (room_after k d s room) ≡ p)
 unfolding write_command room_after put_answer put_room
 wrote k d s room p a w q h =
     let enough = le-ltb (length room) (length p) h in (

@@ -98,5 +98,7 @@ writer_order k d s room = record {
         rw (t, l) (ap (drop (length bytes)) front ∙ drop_at bytes (drop (length bytes) room) (length bytes) refl),
       );
   written_told = λ n. (refl, refl);
-  unwritten_told = λ number. (refl, refl);
+  unwritten_8 = refl;
+  unwritten_9 = refl;
+  unwritten_told = λ e. (refl, refl);
 }

@@ -8,7 +8,7 @@ use Rattle.command.specs.Transfer.{padding, body_place}
 use Rattle.command.specs.declared.reader.Parts.{Parts}
 use Rattle.command.specs.Reader.{parts_of, read_command}
 pub use Rattle.command.specs.Rows.{Bytes}
-use Rattle.writer.specs.Writer.{Wrote, write_command, room_after}
+use Rattle.writer.specs.Writer.{write_command, room_after}
 
 -- where the reader says that body and suffix lie
 abbrev pub body_at : Parts → List ℕ → List ℕ
@@ -41,7 +41,7 @@ pub record ReadsAs (p : List ℕ) (k : Command) (d s : List ℕ) : Type 0 where
 
 -- "Reading what it wrote gives the same command, data and suffix."
 abbrev pub ReadsBack : Type 0
-ReadsBack = (k : Command) (d s room : List ℕ) (n : ℕ) → write_command k d s room ≡ Wrote n
+ReadsBack = (k : Command) (d s room : List ℕ) (n : ℕ) → write_command k d s room ≡ Ok n
     → ReadsAs (take n (room_after k d s room)) k (carried k d) (carried k s)
 
 -- "with zero filler and pad": a transfer from the address a on, in either memory; no other command has any
@@ -65,7 +65,7 @@ ZeroFilled ReadHsb p = Unit {0}
 
 -- the writer, handed what the reader read, writes the data back "byte for byte"
 pub record WritesAs (p : List ℕ) (k : Command) (room : List ℕ) : Type 0 where
-  pub answer : write_command k (body_at (parts_of k p) p) (suffix_at (parts_of k p) p) room ≡ Wrote (length p)
+  pub answer : write_command k (body_at (parts_of k p) p) (suffix_at (parts_of k p) p) room ≡ Ok (length p)
   pub bytes : take (length p) (room_after k (body_at (parts_of k p) p) (suffix_at (parts_of k p) p) room) ≡ p
 
 -- "A payload that a level 0 board in state 2 answers without stall or 08h, with zero filler and pad, is written back byte for

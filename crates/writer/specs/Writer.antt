@@ -1,5 +1,5 @@
 -- The host's command writer. Assumes nothing: these are definitions.
-use Rattle.std.specs.Prelude.{if◌then◌else◌, ◌≡◌, Bool, false, not, ◌||◌, List, [], ◌∷◌, ◌++◌, ℕ, ◌+◌, ◌-◌, ◌/◌, ◌%◌, ◌≤◌, eqb, ltb, length, take, replicate, Option, None, Some}
+use Rattle.std.specs.Prelude.{if◌then◌else◌, ◌≡◌, Bool, false, not, ◌||◌, List, [], ◌∷◌, ◌++◌, ℕ, ◌+◌, ◌-◌, ◌/◌, ◌%◌, ◌≤◌, eqb, ltb, length, take, replicate, Option, None, Some, Result, Ok, Err}
 use Rattle.words.specs.Words.{overlay}
 use Rattle.memory.specs.declared.address.Range.{Range}
 use Rattle.memory.specs.declared.address.Range.TheVariants.{Flash, Eeprom}
@@ -14,17 +14,26 @@ use Rattle.command.specs.declared.transfer.Transfer.{Transfer}
 use Rattle.command.specs.Transfer.{transfer_of, filler_size, suffix_size}
 pub use Rattle.writer.specs.declared.head.Head.{Head}
 pub use Rattle.writer.specs.declared.write.Tail.{Tail}
-pub use Rattle.writer.specs.declared.write.Written.{Written}
-pub use Rattle.writer.specs.declared.write.Written.TheVariants.{Wrote, Unwritten}
+pub use Rattle.writer.specs.declared.write.WriteError.{WriteError}
+pub use Rattle.writer.specs.declared.write.WriteError.TheVariants.{WrongCommand, TooShort}
 
--- the paper's number of each answer, 0 where it refuses nothing, and how many bytes it wrote, 0 where it refused
+-- what the writer answers: how many bytes it wrote, or why it wrote none
+abbrev pub Written : Type 0
+Written = Result ℕ WriteError
+
+-- the paper's number of each error
+abbrev pub write_error_number : WriteError → ℕ
+write_error_number WrongCommand = 8
+write_error_number TooShort = 9
+
+-- the number of each answer, 0 where it refuses nothing, and how many bytes it wrote, 0 where it refused
 abbrev pub written_number : Written → ℕ
-written_number (Wrote n) = 0
-written_number (Unwritten k) = k
+written_number (Ok n) = 0
+written_number (Err e) = write_error_number e
 
 abbrev pub written_count : Written → ℕ
-written_count (Wrote n) = n
-written_count (Unwritten k) = 0
+written_count (Ok n) = n
+written_count (Err e) = 0
 
 -- ---- the bytes of a command
 
@@ -100,7 +109,7 @@ pub record Put (h : Head) (t : Tail) (d s : List ℕ) : Type 0 where
 
 -- 9: "writer: room too short"; "refusing, it leaves its room unwritten, and otherwise the room past its answer"
 unfoldable pub put_answer : List ℕ → List ℕ → Written
-put_answer bytes room = if ltb (length room) (length bytes) then Unwritten 9 else Wrote (length bytes)
+put_answer bytes room = if ltb (length room) (length bytes) then Err TooShort else Ok (length bytes)
 
 unfoldable pub put_room : List ℕ → List ℕ → List ℕ
 put_room bytes room = if ltb (length room) (length bytes) then room else overlay 0 bytes room
@@ -141,7 +150,7 @@ cannot_write k d s = bad_address k || bad_write k (length d) (length s)
 
 -- "The writer checks 8 before 9"
 unfoldable pub write_command : Command → List ℕ → List ℕ → List ℕ → Written
-write_command k d s room = if cannot_write k d s then Unwritten 8 else put_answer (command_bytes k d s) room
+write_command k d s room = if cannot_write k d s then Err WrongCommand else put_answer (command_bytes k d s) room
 
 unfoldable pub room_after : Command → List ℕ → List ℕ → List ℕ → List ℕ
 room_after k d s room = if cannot_write k d s then room else put_room (command_bytes k d s) room

@@ -1,12 +1,12 @@
 -- 01's refusals 8 and 9, each with its cause in numbers, and what the writer leaves in its room, beside the definitions. Proved in
 -- proofs/WriterOrderHolds.antt.
-use Rattle.std.specs.Prelude.{◌⊎◌, ◌≡◌, true, List, [], ◌∷◌, ℕ, ◌+◌, ◌≤◌, ◌<◌, length, take, drop}
+use Rattle.std.specs.Prelude.{◌⊎◌, ◌≡◌, true, List, [], ◌∷◌, ℕ, ◌+◌, ◌≤◌, ◌<◌, length, take, drop, Ok, Err}
 use Rattle.words.specs.Words.{among}
 use Rattle.command.specs.Ranges.{AddressRight}
 use Rattle.command.specs.declared.command.Command.{Command}
 use Rattle.command.specs.declared.command.Command.TheVariants.{ProgramFlash, ProgramEeprom, Read, BlankCheck, EraseBlock, EraseChip, WriteByte, WriteHsb}
 use Rattle.command.specs.declared.command.Command.TheVariants.{StartReset, StartAt, ReadVersion, ReadByte, ReadHsb}
-use Rattle.writer.specs.Writer.{Wrote, Unwritten, command_bytes, write_command, room_after, written_number, written_count}
+use Rattle.writer.specs.Writer.{WriteError, WrongCommand, TooShort, command_bytes, write_command, room_after, write_error_number, written_number, written_count}
 
 -- "for program data not as long as the range or suffix not 16 bytes": not so
 pub record PartsRight (a e : ℕ) (d s : List ℕ) : Type 0 where
@@ -36,13 +36,15 @@ pub record Writable (k : Command) (d s : List ℕ) : Type 0 where
 
 -- "The writer checks 8 before 9; refusing, it leaves its room unwritten, and otherwise the room past its answer."
 pub record Order (k : Command) (d s room : List ℕ) : Type 0 where
-  pub eight : (Writable k d s → ⊥) → (write_command k d s room ≡ Unwritten 8) × (room_after k d s room ≡ room)
-  pub nine : Writable k d s → length room < length (command_bytes k d s) → (write_command k d s room ≡ Unwritten 9) × (room_after k d s room ≡ room)
+  pub eight : (Writable k d s → ⊥) → (write_command k d s room ≡ Err WrongCommand) × (room_after k d s room ≡ room)
+  pub nine : Writable k d s → length room < length (command_bytes k d s) → (write_command k d s room ≡ Err TooShort) × (room_after k d s room ≡ room)
   pub written : Writable k d s → length (command_bytes k d s) ≤ length room → let n : ℕ = length (command_bytes k d s) in
-      (write_command k d s room ≡ Wrote n) × (take n (room_after k d s room) ≡ command_bytes k d s) × (drop n (room_after k d s room) ≡ drop n room)
+      (write_command k d s room ≡ Ok n) × (take n (room_after k d s room) ≡ command_bytes k d s) × (drop n (room_after k d s room) ≡ drop n room)
   -- the number and the count of an answer: 0 and how many bytes, or the refusal's number and 0
-  pub written_told : (n : ℕ) → (written_number (Wrote n) ≡ 0) × (written_count (Wrote n) ≡ n)
-  pub unwritten_told : (number : ℕ) → (written_number (Unwritten number) ≡ number) × (written_count (Unwritten number) ≡ 0)
+  pub written_told : (n : ℕ) → (written_number (Ok n) ≡ 0) × (written_count (Ok n) ≡ n)
+  pub unwritten_8 : written_number (Err WrongCommand) ≡ 8
+  pub unwritten_9 : written_number (Err TooShort) ≡ 9
+  pub unwritten_told : (e : WriteError) → (written_number (Err e) ≡ write_error_number e) × (written_count (Err e) ≡ 0)
 
 abbrev pub WriterOrder : Type 0
 WriterOrder = (k : Command) (d s room : List ℕ) → Order k d s room

@@ -6,4 +6,4 @@
 mod head;
 mod write;
 
-pub use write::{Written, write_command, written_count, written_number};
+pub use write::{WriteError, write_command, written_count, written_number};

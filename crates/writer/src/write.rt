@@ -2,41 +2,45 @@
 ghost use Rattle.std.specs.Prelude.{◌≡◌};
 ghost use Rattle.command.specs.Transfer.{transfer_of};
 ghost use Rattle.writer.specs.Writer.{Put, tail_for, bad_parts, bad_write, put_bytes, put_answer, put_room, write_command, room_after};
-ghost use Rattle.writer.specs.Writer.{written_number, written_count};
+ghost use Rattle.writer.specs.Writer.{write_error_number, written_number, written_count};
 
 use crate::head::{Head, head_of};
 use command::{Command, FILLER_SIZE, SUFFIX_SIZE};
 
-// What the writer answers: how many bytes it put into its room, or the number of its refusal.
-#[derive(Clone, Copy)]
-pub enum Written {
-    Wrote(usize),
-    Unwritten(u8),
+// Why nothing is written: a command that the loader would not take, or a room that is too short.
+#[derive(Clone, Copy, Debug, PartialEq, Eq)]
+pub enum WriteError {
+    WrongCommand,
+    TooShort,
 }
 
-// The writer's refusals: a command that the loader would not take, and a room that is too short.
-const WRONG_COMMAND: u8 = 8;
-
-const SHORT_ROOM: u8 = 9;
+impl WriteError {
+    // The number of the refusal.
+    pub fn number(self) -> u8
+        ensures { result ≡ write_error_number self }
+    {
+        match self {
+            WriteError::WrongCommand => 8,
+            WriteError::TooShort => 9,
+        }
+    }
+}
 
 // The number of the refusal, and 0 where there is none.
-pub fn written_number(written: Written) -> u8
+pub fn written_number(written: Result<usize, WriteError>) -> u8
     ensures { result ≡ written_number written }
 {
     match written {
-        Written::Wrote(_) => 0,
-        Written::Unwritten(number) => number,
+        Ok(_) => 0,
+        Err(error) => error.number(),
     }
 }
 
 // How many bytes were written, and 0 where it refused.
-pub fn written_count(written: Written) -> usize
+pub fn written_count(written: Result<usize, WriteError>) -> usize
     ensures { result ≡ written_count written }
 {
-    match written {
-        Written::Wrote(count) => count,
-        Written::Unwritten(_) => 0,
-    }
+    written.unwrap_or(0)
 }
 
 // How much follows a command's head: zeros of filler and pad, bytes of the body, bytes of the suffix.
@@ -86,7 +90,7 @@ fn bad_write(command: Command, body: usize, suffix: usize) -> bool
 }
 
 // Puts head, zeros, body and suffix into the room, one after the other, if they fit.
-fn put(head: Head, tail: Tail, body: &[u8], suffix: &[u8], room: &mut [u8]) -> Written
+fn put(head: Head, tail: Tail, body: &[u8], suffix: &[u8], room: &mut [u8]) -> Result<usize, WriteError>
     requires { Put head tail body.now suffix.now }
     ensures value { result ≡ put_answer (put_bytes head tail body.now suffix.now) room.old }
     ensures room_after { room.new ≡ put_room (put_bytes head tail body.now suffix.now) room.old }
@@ -99,7 +103,7 @@ fn put(head: Head, tail: Tail, body: &[u8], suffix: &[u8], room: &mut [u8]) -> W
     let at_suffix = at_body + from_body;
     let end = at_suffix + from_suffix;
     if room.len() < end {
-        return Written::Unwritten(SHORT_ROOM);
+        return Err(WriteError::TooShort);
     }
     let bytes = head.bytes;
     let zeros = [0u8; 57];
@@ -107,22 +111,19 @@ fn put(head: Head, tail: Tail, body: &[u8], suffix: &[u8], room: &mut [u8]) -> W
     words::lay(room, at_zeros, &zeros[..fill]);
     words::lay(room, at_body, &body[..from_body]);
     words::lay(room, at_suffix, &suffix[..from_suffix]);
-    Written::Wrote(end)
+    Ok(end)
 }
 
 // Writes a command into the room, and answers how many bytes that took; a program transfer with its body and its suffix, at which
 // no other command looks. Refuses a command that the loader would not take with 8, and a room that is too short with 9; then the
 // room stays as it was, and otherwise the room past the answer does.
 #[tactic(auto, unfolding(crate::specs::Writer::write_command, crate::specs::Writer::room_after))]
-pub fn write_command(command: Command, body: &[u8], suffix: &[u8], room: &mut [u8]) -> Written
+pub fn write_command(command: Command, body: &[u8], suffix: &[u8], room: &mut [u8]) -> Result<usize, WriteError>
     ensures value { result ≡ write_command command body.now suffix.now room.old }
     ensures room_after { room.new ≡ room_after command body.now suffix.now room.old }
 {
-    if command::bad_address(command) {
-        return Written::Unwritten(WRONG_COMMAND);
-    }
-    if bad_write(command, body.len(), suffix.len()) {
-        return Written::Unwritten(WRONG_COMMAND);
+    if command::bad_address(command) || bad_write(command, body.len(), suffix.len()) {
+        return Err(WriteError::WrongCommand);
     }
     let head = head_of(command);
     let tail = tail_of(command, body.len(), suffix.len());

@@ -1,5 +1,6 @@
 -- `writer::write::put` meets its contract: each part is laid right after the one before it.
 -- Assumes nothing.
+use Rattle.std.specs.Prelude.{Ok, Err}
 use mathlib.Core.Path.{◌≡◌, refl, sym, ap, ◌∙◌}
 use mathlib.Core.List.{List, [], ◌++◌}
 use Prim.Native.Nat.{ℕ, ◌+◌, ◌≤◌, ◌<◌}
@@ -9,7 +10,7 @@ use lib.Seq.{length-take-le}
 use borrow.Author.Tests.{lt-ltb, le-ltb}
 use Rattle.words.specs.Words.{laid}
 use Rattle.words.proofs.WordsLaws.{overlay_none, lay_after, take_replicate}
-use Rattle.writer.specs.Writer.{Head, Tail, Put, Wrote, Unwritten, zeros, put_bytes, put_answer, put_room}
+use Rattle.writer.specs.Writer.{Head, Tail, Put, TooShort, zeros, put_bytes, put_answer, put_room}
 use Rattle.writer.proofs.write.put.Goals as goal
 
 module _ (h : Head) (t : Tail) (d s room : List ℕ) (p : Put h t d s) where
@@ -32,7 +33,7 @@ module _ (h : Head) (t : Tail) (d s room : List ℕ) (p : Put h t d s) where
   unfolding put_bytes end
   put_length = simp (length-append, head_length, zeros_length, body_length, suffix_length)
 
-  no_room : length room < end → (Unwritten 9 ≡ put_answer (put_bytes h t d s) room) × (room ≡ put_room (put_bytes h t d s) room)
+  no_room : length room < end → (Err TooShort ≡ put_answer (put_bytes h t d s) room) × (room ≡ put_room (put_bytes h t d s) room)
   unfolding put_answer put_room
   no_room k =
       let short = lt-ltb (length room) (length (put_bytes h t d s)) (omega (arith, put_length)) in
@@ -41,7 +42,7 @@ module _ (h : Head) (t : Tail) (d s room : List ℕ) (p : Put h t d s) where
   all_put : (m₁ m₂ m₃ m₄ : List ℕ) → end ≤ length room → m₁ ≡ laid 0 (take h.size h.bytes) room
       → m₂ ≡ laid h.size (take t.zeros (zeros 57)) m₁ → m₃ ≡ laid (h.size + t.zeros) (take t.body d) m₂
       → m₄ ≡ laid (h.size + t.zeros + t.body) (take t.suffix s) m₃
-      → (Wrote end ≡ put_answer (put_bytes h t d s) room) × (m₄ ≡ put_room (put_bytes h t d s) room)
+      → (Ok end ≡ put_answer (put_bytes h t d s) room) × (m₄ ≡ put_room (put_bytes h t d s) room)
   unfolding put_bytes put_answer put_room end
   all_put m₁ m₂ m₃ m₄ k q₁ q₂ q₃ q₄ =
       let x : List ℕ = take h.size h.bytes in
@@ -56,7 +57,7 @@ module _ (h : Head) (t : Tail) (d s room : List ℕ) (p : Put h t d s) where
       let lxyz : length (x ++ y ++ z) ≡ h.size + t.zeros + t.body = simp (length-append, head_length, zeros_length, body_length) in
       let e₄ = lay_after (x ++ y ++ z) w room m₃ m₄ (h.size + t.zeros + t.body) (sym lxyz) (omega (arith, lxyz, suffix_length)) e₃ q₄ in
       let room_enough = le-ltb (length room) (length (x ++ y ++ z ++ w)) (omega (arith, put_length)) in
-      (rw room_enough (ap Wrote (sym put_length)), rw room_enough e₄)
+      (rw room_enough (ap Ok (sym put_length)), rw room_enough e₄)
 
 pub returns-then-room-end : goal.returns-then-room-end
 unfolding end
