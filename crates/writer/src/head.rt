@@ -1,5 +1,5 @@
 // The bytes of a command before its filler: a row of the table.
-ghost use Rattle.std.specs.Prelude.{◌≡◌, ◌/◌, ◌%◌};
+ghost use Rattle.std.specs.Prelude.{◌≡◌};
 ghost use Rattle.memory.specs.Memory.{range_start, range_end};
 ghost use Rattle.command.specs.Form.{block_code};
 ghost use Rattle.writer.specs.Writer.{head_of, headed, range_head, read_code};
@@ -23,23 +23,13 @@ fn six(size: usize, a: u8, b: u8, c: u8, d: u8, e: u8, f: u8) -> Head
     }
 }
 
-fn high(n: u16) -> u8
-    ensures { result ≡ n / 256 }
-{
-    (n / 256) as u8
-}
-
-fn low(n: u16) -> u8
-    ensures { result ≡ n % 256 }
-{
-    (n % 256) as u8
-}
-
 // Two codes, a start and an end.
 fn range_head(group: u8, code: u8, start: u16, end: u16) -> Head
     ensures { result ≡ range_head group code start end }
 {
-    six(6, group, code, high(start), low(start), high(end), low(end))
+    let [start_high, start_low] = start.to_be_bytes();
+    let [end_high, end_low] = end.to_be_bytes();
+    six(6, group, code, start_high, start_low, end_high, end_low)
 }
 
 fn read_head(range: Range) -> Head
@@ -75,7 +65,10 @@ pub(crate) fn head_of(command: Command) -> Head
         Command::WriteByte(index, value) => six(4, 0x04, 0x01, index, value, 0, 0),
         Command::WriteHsb(value) => six(4, 0x04, 0x02, 0x00, value, 0, 0),
         Command::StartReset => six(3, 0x04, 0x03, 0x00, 0, 0, 0),
-        Command::StartAt(address) => six(5, 0x04, 0x03, 0x01, high(address.0), low(address.0), 0),
+        Command::StartAt(address) => {
+            let [high, low] = address.0.to_be_bytes();
+            six(5, 0x04, 0x03, 0x01, high, low, 0)
+        }
         Command::ReadVersion => six(3, 0x05, 0x00, 0x00, 0, 0, 0),
         Command::ReadByte(index) => six(3, 0x05, 0x01, index, 0, 0, 0),
         Command::ReadHsb => six(3, 0x05, 0x02, 0x00, 0, 0, 0),

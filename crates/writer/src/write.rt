@@ -90,7 +90,13 @@ fn bad_write(command: Command, body: usize, suffix: usize) -> bool
 }
 
 // Puts head, zeros, body and suffix into the room, one after the other, if they fit.
-fn put(head: Head, tail: Tail, body: &[u8], suffix: &[u8], room: &mut [u8]) -> Result<usize, WriteError>
+fn put(
+    head: Head,
+    tail: Tail,
+    body: &[u8],
+    suffix: &[u8],
+    room: &mut [u8],
+) -> Result<usize, WriteError>
     requires { Put head tail body.now suffix.now }
     ensures value { result ≡ put_answer (put_bytes head tail body.now suffix.now) room.old }
     ensures room_after { room.new ≡ put_room (put_bytes head tail body.now suffix.now) room.old }
@@ -118,7 +124,12 @@ fn put(head: Head, tail: Tail, body: &[u8], suffix: &[u8], room: &mut [u8]) -> R
 // no other command looks. Refuses a command that the loader would not take with 8, and a room that is too short with 9; then the
 // room stays as it was, and otherwise the room past the answer does.
 #[tactic(auto, unfolding(crate::specs::Writer::write_command, crate::specs::Writer::room_after))]
-pub fn write_command(command: Command, body: &[u8], suffix: &[u8], room: &mut [u8]) -> Result<usize, WriteError>
+pub fn write_command(
+    command: Command,
+    body: &[u8],
+    suffix: &[u8],
+    room: &mut [u8],
+) -> Result<usize, WriteError>
     ensures value { result ≡ write_command command body.now suffix.now room.old }
     ensures room_after { room.new ≡ room_after command body.now suffix.now room.old }
 {
