@@ -1,6 +1,6 @@
 -- The statements of specs/Effects.antt hold.
 -- Assumes nothing.
-use Rattle.std.specs.Prelude.{Option, None, Some}
+use Rattle.std.specs.Prelude.{Option, None, Some, Ok}
 use mathlib.Core.Logic.{◌⊎◌, inl, inr}
 use mathlib.Core.Path.{◌≡◌, refl, sym, ap, ◌∙◌, subst}
 use mathlib.Core.Bool.{Bool, true, false, not, false≢true, true≢false}
@@ -27,7 +27,6 @@ use Rattle.command.specs.Form.{form}
 use Rattle.command.specs.Address.{bad_address}
 use Rattle.command.specs.Transfer.{body_of, bad_length}
 use Rattle.command.specs.Reader.{parts_of, read_command}
-use Rattle.command.specs.declared.reader.Reading.TheVariants.{Taken}
 use Rattle.command.specs.declared.command.Command.{Command}
 use Rattle.command.specs.declared.command.Command.TheVariants.{ProgramFlash, ProgramEeprom, Read, BlankCheck, EraseBlock, EraseChip, WriteByte, WriteHsb}
 use Rattle.command.specs.declared.command.Command.TheVariants.{StartReset, StartAt, ReadVersion, ReadByte, ReadHsb}
@@ -259,7 +258,7 @@ answered b k d l false false true f a e s v = absurd (s (rw (f, a, e)))
 answered b k d l false false false f a e s v = (a, e)
 
 read_form_lem : (b : Board) (d : List ℕ) (o : Option Command) → form d ≡ o → level b.config ≡ L0
-    → ((obey_form b o d).outcome ≡ Stall → ⊥) → ((obey_form b o d).session.status ≡ 0x08 → ⊥) → (k : Command) × (read_command d ≡ Taken k (parts_of k d))
+    → ((obey_form b o d).outcome ≡ Stall → ⊥) → ((obey_form b o d).session.status ≡ 0x08 → ⊥) → (k : Command) × (read_command d ≡ Ok (k, parts_of k d))
 unfolding stall
 read_form_lem b d None f l s v = absurd (s refl)
 read_form_lem b d (Some k) f l s v =
@@ -268,7 +267,7 @@ read_form_lem b d (Some k) f l s v =
 
 answered_is_read : (b : Board) → Ready L0 b → (u : Unnamed) (d : List ℕ) → 0 < length d → length d ≤ most_data
     → ((step b (download u d)).outcome ≡ Stall → ⊥) → ((step b (download u d)).session.status ≡ 0x08 → ⊥)
-    → (k : Command) × (read_command d ≡ Taken k (parts_of k d))
+    → (k : Command) × (read_command d ≡ Ok (k, parts_of k d))
 answered_is_read b r u d h m s v =
     let e = commanded r u d h m in
     read_form_lem b d (form d) refl r.at_level (λ q. s (ap (λ x. x.outcome) e ∙ q)) (λ q. v (ap (λ x. x.session.status) e ∙ q))

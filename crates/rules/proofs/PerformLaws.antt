@@ -23,8 +23,7 @@ use Rattle.memory.proofs.ProgramLaws.{memory_after_fit, flash_stores_fit}
 use Rattle.config.specs.Config.{erased_config}
 use Rattle.config.specs.declared.config.Config.{Config}
 use Rattle.command.specs.Address.{bad_ends}
-use Rattle.command.specs.Transfer.{padding, body_of, wrong_transfer}
-use Rattle.command.specs.declared.transfer.Transfer.TheVariants.{Of}
+use Rattle.command.specs.Transfer.{laid, padding, body_of, wrong_transfer}
 use Rattle.command.specs.declared.command.Command.{Command}
 use Rattle.command.specs.declared.command.Command.TheVariants.{ProgramFlash, ProgramEeprom, EraseBlock, EraseChip}
 use Rattle.command.proofs.AddressLaws.{bad_ends_good}
@@ -58,7 +57,7 @@ selected_sized (Flash a e) f m s = s.flash_size_lem
 selected_sized (Eeprom a e) f m s = s.eeprom_size_lem
 
 -- a transfer whose addresses and length are right can be programmed, into a memory of any size
-pub transfer_fit : (size a e : ℕ) (d m : List ℕ) → length m ≡ size → bad_ends size a e ≡ false → wrong_transfer (Of (padding a) (count a e)) (length d) ≡ false
+pub transfer_fit : (size a e : ℕ) (d m : List ℕ) → length m ≡ size → bad_ends size a e ≡ false → wrong_transfer (Some (laid (padding a) (count a e))) (length d) ≡ false
     → Programmable size a e (body_of a e d) m
 transfer_fit size a e d m h u w =
     let g = bad_ends_good size a e u in

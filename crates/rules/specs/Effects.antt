@@ -1,6 +1,6 @@
 -- What a request leaves on the board, said by the command that was accepted: for every board and every request.
 -- The statements are proved in proofs/EffectsHold.antt.
-use Rattle.std.specs.Prelude.{◌≡◌, true, List, [], ◌∷◌, ℕ, ◌≤◌, ◌<◌, length, Option, None, Some}
+use Rattle.std.specs.Prelude.{◌≡◌, true, List, [], ◌∷◌, ℕ, ◌≤◌, ◌<◌, length, Option, None, Some, Ok}
 use Rattle.words.specs.Words.{among, Programmed}
 use Rattle.memory.specs.Memory.{blank_flash}
 use Rattle.memory.specs.Pages.{pages_met, block_start, block_ff}
@@ -11,7 +11,6 @@ use Rattle.config.specs.declared.config.Config.{Config}
 use Rattle.config.specs.declared.level.Level.TheVariants.{L0}
 use Rattle.command.specs.Transfer.{body_of}
 use Rattle.command.specs.Reader.{parts_of, read_command}
-use Rattle.command.specs.declared.reader.Reading.TheVariants.{Taken}
 use Rattle.writer.specs.RoundTrip.{Bytes, ZeroFilled, WritesAs}
 use Rattle.command.specs.declared.command.Command.{Command}
 use Rattle.command.specs.declared.command.Command.TheVariants.{ProgramFlash, ProgramEeprom, Read, BlankCheck, EraseBlock, EraseChip, WriteByte, WriteHsb}
@@ -133,7 +132,7 @@ RefusalsGiven = (b : Board) (setup d : List ℕ) (n : ℕ)
 
 -- an accepted command is what the reader reads, the level allows it, and the answer is done with state 3 and the pages to wait for
 pub record AcceptedRightly (b : Board) (d : List ℕ) (k : Command) (r : Result) : Type 0 where
-  pub read : read_command d ≡ Taken k (parts_of k d)
+  pub read : read_command d ≡ Ok (k, parts_of k d)
   pub allowed : level_status k (level b.config) ≡ 0x00
   pub done : r.outcome ≡ Done
   pub in_state_3 : r.session.state ≡ 3
@@ -154,7 +153,7 @@ pub record Commands (b : Board) (setup d : List ℕ) (n : ℕ) : Type 0 where
 
 abbrev pub AcceptedAlways : Type 0
 AcceptedAlways = (b : Board) (setup d : List ℕ) (n : ℕ) (k : Command) → Commands b setup d n
-    → read_command d ≡ Taken k (parts_of k d) → level_status k (level b.config) ≡ 0x00 → (ask b setup d n).accepted ≡ Some k
+    → read_command d ≡ Ok (k, parts_of k d) → level_status k (level b.config) ≡ 0x00 → (ask b setup d n).accepted ≡ Some k
 
 -- a DNLOAD that has bytes and is not refused, in any state and however long, is accepted or leaves state 10; by `Effects`, memories and
 -- configuration then stay
@@ -176,7 +175,7 @@ StatusStays = (b : Board) (setup d : List ℕ) (n : ℕ) → b.session.state ≡
 -- it is read as a command, and the writer, handed what was read, writes the payload
 pub record WrittenBack (p : List ℕ) : Type 0 where
   pub command : Command
-  pub read : read_command p ≡ Taken command (parts_of command p)
+  pub read : read_command p ≡ Ok (command, parts_of command p)
   pub written : ZeroFilled command p → (room : List ℕ) → length p ≤ length room → WritesAs p command room
 
 abbrev pub AnsweredIsWrittenBack : Type 0
