@@ -2,7 +2,7 @@
 use Rattle.std.specs.Prelude.{if◌then◌else◌, ◌≡◌, Bool, true, ◌&&◌, List, [], ℕ, ◌-◌, ◌/◌, ◌%◌, min, eqb, ltb, length, drop}
 use Rattle.std.specs.Prelude.{Option, None, Some, Result, Ok, Err}
 use Rattle.words.specs.Words.{byte_at, high_first, overlay}
-use Rattle.record.specs.Digits.{all_digits}
+use Rattle.record.specs.Digits.{digit_value, is_digit, all_digits}
 use Rattle.record.specs.Record.{record_mark, most_data, character_count, sum, bytes_of, data_of}
 pub use Rattle.record.specs.declared.fields.Fields.{Fields}
 pub use Rattle.record.specs.declared.reader.ReadError.{ReadError}
@@ -61,6 +61,10 @@ reading_number (Ok f) = 0
 reading_number (Err e) = read_error_number e
 
 -- ---- the steps of the code
+
+-- what the table says of a character
+abbrev pub digit_read : ℕ → Option ℕ
+digit_read c = if is_digit c then Some (digit_value c) else None
 
 -- what the pairs after the mark come to, as the code adds them up
 abbrev pub pairs_read : List ℕ → Option ℕ

@@ -1,42 +1,34 @@
 // Pairs of digits, read as bytes.
 ghost use Rattle.std.specs.Prelude.{◌≡◌, suc, ◌*◌, ◌≤◌, length};
-ghost use Rattle.record.specs.Digits.{characters as character_codes, digit_value, tabled};
-ghost use Rattle.record.specs.Reader.{Held, pairs_read};
+ghost use Rattle.record.specs.Digits.{characters as character_codes, tabled};
+ghost use Rattle.record.specs.Digits.{digit_value};
+ghost use Rattle.record.specs.Reader.{Held, digit_read, pairs_read};
 
 use digits::{NO_DIGIT, digit_table};
-use record::Pairs;
 
-// The table's entry for a character.
-fn entry_of(values: &[u8; 256], character: u8) -> u8
+// What the table says of a character.
+fn digit_of(values: &[u8; 256], character: u8) -> Option<u8>
     requires { values.now ≡ tabled digit_value 0 character_codes }
-    ensures { result ≡ digit_value character }
+    ensures { result ≡ digit_read character }
 {
-    let place = character as usize;
-    values[place]
+    let value = values[usize::from(character)];
+    if value == NO_DIGIT { None } else { Some(value) }
 }
 
-// Puts the byte of each pair of characters after the mark into the front of a memory, up to a character that is no digit.
-pub(crate) fn read_pairs(characters: &[u8], count: usize, held: &mut [u8]) -> Pairs
+// Puts the byte of each pair of characters after the mark into the front of a memory, up to a character that is no digit, and answers what
+// the bytes come to.
+pub(crate) fn read_pairs(characters: &[u8], count: usize, held: &mut [u8]) -> Option<u8>
     requires { (length characters.now ≡ suc (2 * count)) × (count ≤ length held.old) }
     ensures value { result ≡ pairs_read characters.now }
     ensures held { Held characters.now held.old held.new }
 {
     let values = digit_table();
-    let mut total = 0;
-    let mut i = 0;
-    while i < count {
-        let high = entry_of(&values, characters[1 + 2 * i]);
-        if high == NO_DIGIT {
-            return Pairs::NoDigit;
-        }
-        let low = entry_of(&values, characters[2 + 2 * i]);
-        if low == NO_DIGIT {
-            return Pairs::NoDigit;
-        }
-        let byte = high * 16 + low;
+    let mut total: u8 = 0;
+    let (pairs, _) = characters[1..].as_chunks::<2>();
+    for (i, &[high, low]) in pairs.iter().enumerate() {
+        let byte = digit_of(&values, high)? * 16 + digit_of(&values, low)?;
         held[i] = byte;
-        total = std::num::wrapping_add_u8(total, byte);
-        i += 1;
+        total = total.wrapping_add(byte);
     }
-    Pairs::Total(total)
+    Some(total)
 }
