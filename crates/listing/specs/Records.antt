@@ -1,9 +1,9 @@
 -- The records of a file. Assumes nothing: these are definitions and a statement.
 use Rattle.std.specs.Prelude.{if◌then◌else◌, ◌≡◌, Option, None, Some, List, [], ◌∷◌, ℕ, zero, suc, leb, ltb, length}
 use Rattle.listing.specs.Line.{line_end, text_end, is_record}
--- where a record's characters lie in the file: the place of the first, and the place after the last
 pub use Rattle.listing.specs.declared.walk.Span.{Span}
 
+-- where a record's characters lie in the file: the place of the first, and the place after the last
 abbrev pub span : ℕ → ℕ → Span
 span start end = record { start = start; end = end }
 

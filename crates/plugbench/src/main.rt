@@ -10,7 +10,7 @@ ghost use Rattle.plugrun.specs.Written.{pieces, written};
 ghost use Rattle.plugrun.specs.Turn.{most_text, IsPiece};
 
 use lines::end_of;
-use plugrun::{MOST_ANSWER, MOST_TEXT, Turn, blank_flash, first_line, start, take_turn};
+use plugrun::{MOST_ANSWER, MOST_TEXT, blank_flash, first_line, start, take_turn};
 use std::io;
 use std::io::{Read, Write};
 
@@ -73,11 +73,11 @@ fn write_pieces<W: Write>(output: &mut W, file: &[u8]) -> io::Result<usize>
     let end = end_of(first_line(file, &mut room));
     let mut number = write_piece(output, file, 0, &room[..end])?;
     let mut progress = start(file);
-    while let Turn::Took(next, size) = take_turn(
+    while let Some(turn) = take_turn(
         file, number, progress, &mut flash, &mut reply, &mut room,
     ) {
-        number = write_piece(output, file, number, &room[..size])?;
-        progress = next;
+        number = write_piece(output, file, number, &room[..turn.size])?;
+        progress = turn.progress;
     }
     Ok(number)
 }

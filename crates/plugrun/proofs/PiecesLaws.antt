@@ -17,12 +17,13 @@ use Rattle.lines.specs.Line.{records_line, refused_line, most_refused_line}
 use Rattle.lines.specs.Room.{put, put_end, Stands}
 use Rattle.lines.proofs.LineLaws.{records_line_le, refused_line_le}
 use Rattle.lines.proofs.RoomLaws.{put_stands}
-use Rattle.listing.specs.Records.{Span, span, most_file, records_from, records_of, record_count, first_met}
+use Rattle.listing.specs.declared.walk.Span.{Span}
+use Rattle.listing.specs.Records.{most_file, records_from, records_of, record_count, first_met}
 use Rattle.listing.proofs.LineLaws.{which}
 use Rattle.listing.proofs.RecordsLaws.{Steps, steps, from_none, no_more, records_few}
 use Rattle.plug.specs.Step.{Board, board, Result, next, blank_flash}
 use Rattle.plugrun.specs.Written.{record_text, asked, start_board, record_texts, first_text, pieces, in_a_row, written}
-use Rattle.plugrun.specs.Turn.{Progress, Turn, turn_of, Left, progress, board_at, took, met_turn, turned}
+use Rattle.plugrun.specs.Turn.{Progress, Turn, Left, progress, board_at, took, met_turn, turned}
 use Rattle.plugrun.specs.Turn.{most_text, start_place, start_progress, IsPiece, HandedOnInOrder}
 use Rattle.plugrun.proofs.TurnLaws.{text_front, record_text_le}
 

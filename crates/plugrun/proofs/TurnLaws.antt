@@ -15,7 +15,8 @@ use Rattle.lines.specs.Room.{put, put_end, Stands}
 use Rattle.lines.specs.declared.line.Word.{Word}
 use Rattle.lines.proofs.LineLaws.{head_line_le}
 use Rattle.lines.proofs.RoomLaws.{put_stands}
-use Rattle.listing.specs.Records.{Span, span}
+use Rattle.listing.specs.declared.walk.Span.{Span}
+use Rattle.listing.specs.Records.{span}
 use Rattle.plug.specs.declared.answer.Answer.{Answer}
 use Rattle.plug.specs.declared.answer.Outcome.{Outcome}
 use Rattle.plug.specs.declared.answer.Outcome.TheVariants.{Answered, StartedReset, StartedAt, Refused}

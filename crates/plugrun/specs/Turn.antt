@@ -4,7 +4,8 @@ use Rattle.std.specs.Prelude.{if◌then◌else◌, ◌≡◌, Option, Some, None
 use Rattle.words.specs.Words.{overlay}
 use Rattle.lines.specs.Line.{head_line, most_head}
 use Rattle.memory.specs.Pages.{store_all}
-use Rattle.listing.specs.Records.{Span, span, most_file, records_from, first_met}
+use Rattle.listing.specs.declared.walk.Span.{Span}
+use Rattle.listing.specs.Records.{span, most_file, records_from, first_met}
 use Rattle.plug.specs.declared.board.Config.{Config}
 use Rattle.plug.specs.declared.answer.Answer.{Answer}
 use Rattle.plug.specs.Step.{Board, board, Result, next, answer, step}

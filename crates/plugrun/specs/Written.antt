@@ -5,7 +5,8 @@ use Rattle.lines.specs.Line.{word_text, head_line, records_line, refused_line}
 use Rattle.lines.specs.declared.line.Word.{Word}
 use Rattle.lines.specs.declared.line.Word.TheVariants as W
 use Rattle.listing.specs.Line.{starts_erased}
-use Rattle.listing.specs.Records.{Span, most_file, records_of, record_count}
+use Rattle.listing.specs.declared.walk.Span.{Span}
+use Rattle.listing.specs.Records.{most_file, records_of, record_count}
 use Rattle.plug.specs.declared.board.Config.{Config}
 use Rattle.memory.specs.Memory.{flash_address}
 use Rattle.memory.specs.declared.address.FlashAddress.{FlashAddress}

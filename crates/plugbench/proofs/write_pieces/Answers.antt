@@ -24,8 +24,8 @@ pub write_piece-requires : goal.write_piece-requires
 write_piece-requires g c =
     first_piece _ _ _ _ _ (omega (arith, c.text_room-room.ensures)) (c.first_line.ensures.value, c.first_line.ensures.room_after) c.end_of-end.ensures
 
-pub loop-next-init : goal.loop-next-init
-loop-next-init g c =
+pub loop-turn-init : goal.loop-turn-init
+loop-turn-init g c =
     let file = c.args.file.now in
     let number = c.in_ok-number.ensures.next in (
       subst (λ (k : ℕ). SoFar file k c.start-progress.result c.blank_flash-flash.result) (sym number)
@@ -38,40 +38,40 @@ loop-next-init g c =
 
 -- ---- a turn
 
-pub slice_bounds-room-end-in-Took : goal.slice_bounds-room-end-in-Took
-slice_bounds-room-end-in-Took g c =
-    let i = c.loop-next.invariant in
-    size_within _ _ _ _ _ _ i.0 _ c.take_turn.ensures _ _ c.in-Took.is (omega (arith, i.1))
+pub slice_bounds-room-end-in-Some : goal.slice_bounds-room-end-in-Some
+slice_bounds-room-end-in-Some g c =
+    let i = c.loop-turn.invariant in
+    size_within _ _ _ _ _ _ i.0 _ c.take_turn.ensures _ c.in-Some.is (omega (arith, i.1))
 
-pub slice_bounds-write_piece-end-in-Took : goal.slice_bounds-write_piece-end-in-Took
-slice_bounds-write_piece-end-in-Took g c =
-    let i = c.loop-next.invariant in
-    sym (length-take-le _ _ (size_within _ _ _ _ _ _ i.0 _ c.take_turn.ensures _ _ c.in-Took.is (omega (arith, i.1))))
+pub slice_bounds-write_piece-end-in-Some : goal.slice_bounds-write_piece-end-in-Some
+slice_bounds-write_piece-end-in-Some g c =
+    let i = c.loop-turn.invariant in
+    sym (length-take-le _ _ (size_within _ _ _ _ _ _ i.0 _ c.take_turn.ensures _ c.in-Some.is (omega (arith, i.1))))
 
-pub write_piece-requires-in-Took : goal.write_piece-requires-in-Took
-write_piece-requires-in-Took g c = is_piece _ _ _ _ _ _ c.loop-next.invariant.0 _ c.take_turn.ensures _ _ c.in-Took.is
+pub write_piece-requires-in-Some : goal.write_piece-requires-in-Some
+write_piece-requires-in-Some g c = is_piece _ _ _ _ _ _ c.loop-turn.invariant.0 _ c.take_turn.ensures _ c.in-Some.is
 
-pub loop-next-smaller : goal.loop-next-smaller
-loop-next-smaller g c = less_left _ _ _ _ _ _ c.loop-next.invariant.0 _ c.take_turn.ensures _ _ c.in-Took.is
+pub loop-turn-smaller : goal.loop-turn-smaller
+loop-turn-smaller g c = less_left _ _ _ _ _ _ c.loop-turn.invariant.0 _ c.take_turn.ensures _ c.in-Some.is
 
-pub loop-next-preserved : goal.loop-next-preserved
-loop-next-preserved g c =
+pub loop-turn-preserved : goal.loop-turn-preserved
+loop-turn-preserved g c =
     let file = c.args.file.now in
-    let i = c.loop-next.invariant in
+    let i = c.loop-turn.invariant in
     let e = c.take_turn.ensures in
-    let took = c.in-Took.is in
+    let took = c.in-Some.is in
     let number = c.in_ok-number-2.ensures.next in (
-      subst (λ (k : ℕ). SoFar file k c.in-Took.next c.take_turn.new.flash) (sym number) (further _ _ _ _ _ _ i.0 _ e _ _ took),
-      same_room _ _ _ _ _ _ i.0 _ e _ _ took (omega (arith, i.1)) ∙ i.1,
-      handed file _ _ _ _ _ _ i.2 (is_piece _ _ _ _ _ _ i.0 _ e _ _ took) c.in_ok-number-2.ensures.bytes number,
+      subst (λ (k : ℕ). SoFar file k c.in-Some.turn.progress c.take_turn.new.flash) (sym number) (further _ _ _ _ _ _ i.0 _ e _ took),
+      same_room _ _ _ _ _ _ i.0 _ e _ took (omega (arith, i.1)) ∙ i.1,
+      handed file _ _ _ _ _ _ i.2 (is_piece _ _ _ _ _ _ i.0 _ e _ took) c.in_ok-number-2.ensures.bytes number,
     )
 
 -- ---- after the last
 
 pub returns-clause-count : goal.returns-clause-count
-returns-clause-count g c = all_handed_on _ _ _ _ _ _ c.loop-next.invariant.0 _ c.take_turn.ensures c.in_default.is
+returns-clause-count g c = all_handed_on _ _ _ _ _ _ c.loop-turn.invariant.0 _ c.take_turn.ensures c.in_default.is
 
 pub returns-clause-bytes : goal.returns-clause-bytes
 returns-clause-bytes g c =
-    let i = c.loop-next.invariant in
+    let i = c.loop-turn.invariant in
     whole c.args.file.now _ _ _ (all_handed_on _ _ _ _ _ _ i.0 _ c.take_turn.ensures c.in_default.is) i.2

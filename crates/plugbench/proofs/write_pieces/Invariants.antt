@@ -7,10 +7,10 @@ use Rattle.plugrun.specs.Turn.{most_text}
 use Rattle.plugrun.proofs.PiecesLaws.{SoFar}
 use Rattle.plugbench.proofs.write_pieces.Given as goal
 
-abbrev pub invariant-loop-next : goal.invariant-loop-next
-invariant-loop-next g l = SoFar l.file l.number l.progress l.flash
+abbrev pub invariant-loop-turn : goal.invariant-loop-turn
+invariant-loop-turn g l = SoFar l.file l.number l.progress l.flash
     × (length l.room ≡ most_text)
     × Appends (g.W.Write.contents l.fn.output) (g.W.Write.contents l.output) (in_a_row (take l.number (pieces l.file)))
 
-abbrev pub decreases-loop-next : goal.decreases-loop-next
-decreases-loop-next g l = length l.file - l.progress.at
+abbrev pub decreases-loop-turn : goal.decreases-loop-turn
+decreases-loop-turn g l = length l.file - l.progress.at
