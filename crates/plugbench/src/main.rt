@@ -3,16 +3,17 @@
 // its end, and that what is handed on reaches standard output.
 #![tactic(auto)]
 
-ghost use Rattle.std.specs.Prelude.{◌≡◌, ◌≤◌, ◌<◌, suc, length, take, IfOk, OnOk};
-ghost use Rattle.std.specs.Io.KnownBytes.{Appends, Consumes, IsAtEnd};
+ghost use Rattle.std.specs.Prelude.{◌≡◌, suc, length, IfOk, OnOk};
+ghost use Rattle.std.specs.Io.KnownBytes.{Appends};
 ghost use Rattle.listing.specs.Records.{most_file};
 ghost use Rattle.plugrun.specs.Written.{pieces, written};
 ghost use Rattle.plugrun.specs.Turn.{most_text, IsPiece};
 
+use input::read_full;
 use lines::end_of;
 use plugrun::{MOST_ANSWER, MOST_TEXT, blank_flash, first_line, start, take_turn};
 use std::io;
-use std::io::{Read, Write};
+use std::io::Write;
 
 // One byte more than a file may have, so that a longer file is seen to be too long.
 const FILE_ROOM: usize = 1048577;
@@ -28,23 +29,6 @@ fn text_room() -> [u8; MOST_TEXT]
     ensures { length result ≡ most_text }
 {
     [0; MOST_TEXT]
-}
-
-// Reads until the room is full or the input ends; answers how many bytes now stand at the front of the room.
-fn read_full<R: Read>(input: &mut R, room: &mut [u8]) -> io::Result<usize>
-    ensures size { IfOk result (λ n. n ≤ length room.new) }
-    ensures bytes { IfOk result (λ n. Consumes (R.remaining input.old) (R.remaining input.new) (take n room.new)) }
-    ensures end { IfOk result (λ n. n < length room.new → IsAtEnd (R.remaining input.new)) }
-{
-    let mut size = 0;
-    while size < room.len() {
-        let read = input.read(&mut room[size..])?;
-        if read == 0 {
-            break;
-        }
-        size += read;
-    }
-    Ok(size)
 }
 
 // Hands the piece of this number on to the output; nothing else may be lent to it. Answers the number of the next piece.

@@ -1,0 +1,3 @@
+-- The laws by which the code meets its contract.
+mod ReadLaws
+pub mod OneAnswer
