@@ -6,9 +6,9 @@ use Rattle.words.proofs.WordsLaws.{overlay_none, lay_after}
 use Rattle.lines.specs.Text.{hex_bytes}
 use Rattle.lines.proofs.TextLaws.{length_hex_bytes, hex_bytes_append}
 use Rattle.record.specs.Record.{record_mark, head_size, most_data, character_count, sum, checksum, head_bytes, summed_bytes, record_over, record_of}
-use Rattle.record.specs.declared.writer.Written.{Written}
-use Rattle.record.specs.declared.writer.Written.TheVariants.{Wrote, Unwritten}
-use Rattle.record.specs.Writer.{write_record, room_written}
+use Rattle.std.specs.Prelude.{Ok, Err}
+use Rattle.record.specs.declared.writer.WriteError.TheVariants.{BadRecord, TooShort}
+use Rattle.record.specs.Writer.{Written, write_record, room_written}
 use Rattle.record.proofs.RecordLaws.{sum_append, checksum_is, length_record_of}
 
 -- the head h, the data d and the byte k after them
@@ -31,11 +31,11 @@ module _ (offset kind : ℕ) (d room : List ℕ) where
   unfoldable pub Answer : Written → List ℕ → Type 0
   Answer r room' = (r ≡ write_record offset kind d room) × (room' ≡ room_written offset kind d room)
 
-  pub too_long : most_data < length d → Answer (Unwritten 17) room
+  pub too_long : most_data < length d → Answer (Err BadRecord) room
   unfolding write_record room_written Answer
   too_long h = let t = lt-ltb most_data (length d) h in (rw t, rw t)
 
-  pub no_room : length d ≤ most_data → length room < character_count (length d) → Answer (Unwritten 9) room
+  pub no_room : length d ≤ most_data → length room < character_count (length d) → Answer (Err TooShort) room
   unfolding write_record room_written Answer
   no_room h g =
       let t = le-ltb most_data (length d) h in
@@ -47,13 +47,15 @@ module _ (offset kind : ℕ) (d room : List ℕ) where
       → total ≡ sum (summed_bytes offset kind d) % 256
   summed part total p q = omega (arith, sum_append (head_bytes offset kind (length d)) d)
 
-  -- the record with the byte k after the data, where k brings the sum to zero
-  pub all_written : (part total k n : ℕ) (room' : List ℕ) → length d ≤ most_data → n ≡ character_count (length d) → n ≤ length room
-      → part ≡ (0 + sum (head_bytes offset kind (length d))) % 256 → total ≡ (part + sum d) % 256 → k < 256 → (k + total) % 256 ≡ 0
-      → room' ≡ overlay 0 (record_over (summed_bytes offset kind d ++ k ∷ [])) room → Answer (Wrote n) room'
+  -- the record of this head, with the byte k after the data, where k brings the sum to zero
+  pub all_written : (head : List ℕ) (part total k n : ℕ) (room' : List ℕ) → head ≡ head_bytes offset kind (length d) → length d ≤ most_data
+      → n ≡ character_count (length d) → n ≤ length room → part ≡ (0 + sum head) % 256 → total ≡ (part + sum d) % 256 → k < 256
+      → (k + total) % 256 ≡ 0 → room' ≡ overlay 0 (record_over (head ++ d ++ k ∷ [])) room → Answer (Ok n) room'
   unfolding write_record room_written record_of Answer
-  all_written part total k n room' h e g p s small z q =
+  all_written head part total k n room' i h e g p s small z q =
       let t = le-ltb most_data (length d) h in
       let u = le-ltb (length room) (length (record_of offset kind d)) (omega (arith, length_record_of offset kind d)) in
-      let c : k ≡ checksum (summed_bytes offset kind d) = checksum_is k (summed_bytes offset kind d) small (omega (arith, summed part total p s)) in
-      (rw (t, u) (ap Wrote (e ∙ sym (length_record_of offset kind d))), rw (t, u) (rw c at q))
+      let all = summed part total (p ∙ ap (λ x. (0 + sum x) % 256) i) s in
+      let c : k ≡ checksum (summed_bytes offset kind d) = checksum_is k (summed_bytes offset kind d) small (omega (arith, all)) in
+      let r : room' ≡ overlay 0 (record_over (summed_bytes offset kind d ++ k ∷ [])) room = q ∙ ap (λ x. overlay 0 (record_over (x ++ d ++ k ∷ [])) room) i in
+      (rw (t, u) (ap Ok (e ∙ sym (length_record_of offset kind d))), rw (t, u) (rw c at r))

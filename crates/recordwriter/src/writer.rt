@@ -4,7 +4,7 @@ ghost use Rattle.words.specs.Words.{overlay};
 ghost use Rattle.record.specs.Record.{character_count, sum, record_over};
 ghost use Rattle.record.specs.Writer.{write_record, room_written};
 
-use record::{BAD_RECORD, CHECKSUM_SIZE, HEAD_SIZE, MARK, MOST_DATA, TOO_SHORT, Written};
+use record::{CHECKSUM_SIZE, HEAD_SIZE, MARK, WriteError};
 
 // Where the digits of the data begin: after the mark and two digits for each byte before the data.
 const DATA_AT: usize = 1 + 2 * HEAD_SIZE;
@@ -14,10 +14,8 @@ fn added(number: u8, bytes: &[u8]) -> u8
     ensures { result ≡ (number + sum bytes.now) % 256 }
 {
     let mut total = number;
-    let mut i = 0;
-    while i < bytes.len() {
-        total = std::num::wrapping_add_u8(total, bytes[i]);
-        i += 1;
+    for byte in bytes {
+        total = total.wrapping_add(*byte);
     }
     total
 }
@@ -27,31 +25,34 @@ fn put_record(room: &mut [u8], head: [u8; HEAD_SIZE], bytes: &[u8], checksum: u8
     requires { character_count (length bytes.now) ≤ length room.old }
     ensures { room.new ≡ overlay 0 (record_over (head ++ bytes.now ++ checksum ∷ [])) room.old }
 {
-    let mark = [MARK];
-    let last = [checksum];
-    words::lay(room, 0, &mark);
-    lines::hex_text(&head, room, 1);
-    lines::hex_text(bytes, room, DATA_AT);
-    lines::hex_text(&last, room, DATA_AT + 2 * bytes.len());
+    words::lay(room, 0, &[MARK]);
+    let _ = lines::hex_text(&head, room, 1);
+    let _ = lines::hex_text(bytes, room, DATA_AT);
+    let _ = lines::hex_text(&[checksum], room, DATA_AT + 2 * bytes.len());
 }
 
 // Writes a record in capitals at the front of the room. Refuses data that no record can carry with 17, and a room that is too short
 // with 9; then the room stays as it was, and otherwise the room past the record does.
 #[tactic(auto, using(record::proofs::RecordLaws::length_record_of), unfolding(record::specs::Writer::write_record, record::specs::Writer::room_written))]
-pub fn write_record(offset: u16, kind: u8, bytes: &[u8], room: &mut [u8]) -> Written
+pub fn write_record(
+    offset: u16,
+    kind: u8,
+    bytes: &[u8],
+    room: &mut [u8],
+) -> Result<usize, WriteError>
     ensures value { result ≡ write_record offset kind bytes.now room.old }
     ensures room_after { room.new ≡ room_written offset kind bytes.now room.old }
 {
-    let n = bytes.len();
-    if MOST_DATA < n {
-        return Written::Unwritten(BAD_RECORD);
-    }
-    let size = DATA_AT + 2 * (n + CHECKSUM_SIZE);
+    let Ok(length) = u8::try_from(bytes.len()) else {
+        return Err(WriteError::BadRecord);
+    };
+    let size = DATA_AT + 2 * (bytes.len() + CHECKSUM_SIZE);
     if room.len() < size {
-        return Written::Unwritten(TOO_SHORT);
+        return Err(WriteError::TooShort);
     }
-    let head = [n as u8, (offset / 256) as u8, (offset % 256) as u8, kind];
+    let [high, low] = offset.to_be_bytes();
+    let head = [length, high, low, kind];
     let total = added(added(0, &head), bytes);
-    put_record(room, head, bytes, std::num::wrapping_sub_u8(0, total));
-    Written::Wrote(size)
+    put_record(room, head, bytes, total.wrapping_neg());
+    Ok(size)
 }
