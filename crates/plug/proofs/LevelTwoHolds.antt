@@ -1,7 +1,7 @@
 -- The statements of specs/LevelTwo.antt hold. One record is answered alike by two boards with the same SSB and the same blank bytes, and
 -- at level 2 it either moves nothing or is a full chip erase that is done; runs follow by induction.
 -- Assumes nothing.
-use Rattle.std.specs.Prelude.{if◌then◌else◌, Option, None, Some}
+use Rattle.std.specs.Prelude.{if◌then◌else◌, Option, None, Some, Ok, Err}
 use mathlib.Core.Path.{◌≡◌, refl, sym, ap, ◌∙◌, subst}
 use mathlib.Core.Bool.{Bool, true, false, true≢false}
 use mathlib.Core.List.{List, [], ◌∷◌}
@@ -15,11 +15,10 @@ use Rattle.blank.proofs.BlankLaws.{marks, used_in_same, used_in_one}
 use Rattle.blank.proofs.SameBlankLaws.{same_marks, differ_at}
 use Rattle.config.specs.Level.{ssb_level}
 use Rattle.config.specs.declared.level.Level.TheVariants.{L2}
-use Rattle.record.specs.Reader.{reading, data_read}
+use Rattle.record.specs.Reader.{Reading, reading, data_read}
 use Rattle.record.specs.RoundTrip.{Bytes, ReadsAs}
 use Rattle.record.proofs.RoundTripHolds.{reads as reads_written}
-use Rattle.record.specs.declared.fields.Reading.{Reading}
-use Rattle.record.specs.declared.fields.Reading.TheVariants.{Taken, WrongChecksum, Refused as Unread}
+use Rattle.record.specs.declared.reader.ReadError.TheVariants.{WrongChecksum, BadRecord, TooShort}
 use Rattle.plug.specs.Config.{Config, delivered_config, level, erased_config, Fixed, Ssb, Bsb, Sbv, Hsb}
 use Rattle.plug.specs.Levels.{Command, Program, Display, BlankCheck, EraseBlock, EraseChip, Write, Read, StartReset, StartAt, allowed}
 use Rattle.plug.specs.Commands.{flash_size, form, bad_range}
@@ -90,9 +89,10 @@ module _ (c c' : Config) (f f' : List ℕ) (lv : level c ≡ L2) (s : c.ssb ≡ 
   obey_same h (Some k) d = same_if (bad_range k (length d)) (refused_same c c' 17) (let_through h k d)
 
   answer_to_same : length f ≡ flash_size → (r : Reading) (d : List ℕ) → Same (answer_to (board c f) r d) (answer_to (board c' f') r d)
-  answer_to_same h (Taken g) d = obey_same h (form g.kind g.offset d) d
-  answer_to_same h WrongChecksum d = told_same c c' wrong_checksum_text
-  answer_to_same h (Unread k) d = refused_same c c' k
+  answer_to_same h (Ok g) d = obey_same h (form g.kind g.offset d) d
+  answer_to_same h (Err WrongChecksum) d = told_same c c' wrong_checksum_text
+  answer_to_same h (Err BadRecord) d = refused_same c c' 17
+  answer_to_same h (Err TooShort) d = refused_same c c' 9
 
   -- either flash has its size, or neither has
   sized : (cs : List ℕ) (t : Bool) → eqb (length f) flash_size ≡ t

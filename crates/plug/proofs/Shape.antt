@@ -1,7 +1,7 @@
 -- Every answer has one of three shapes: a numbered refusal; `X` or `P`, which move nothing; or what a command does that passed. This
 -- is the one walk through the order of the refusals: the laws of effects and of level 2 go by its cases.
 -- Assumes nothing.
-use Rattle.std.specs.Prelude.{if◌then◌else◌, Option, None, Some}
+use Rattle.std.specs.Prelude.{if◌then◌else◌, Option, None, Some, Ok, Err}
 use mathlib.Core.Path.{◌≡◌, refl}
 use mathlib.Core.Bool.{Bool, true, false}
 use mathlib.Core.List.{List, [], ◌∷◌}
@@ -11,10 +11,9 @@ use lib.ListN.{length}
 use borrow.Author.Tests.{eqb-true, ltb-false}
 use Rattle.words.specs.Words.{among}
 use Rattle.record.specs.Record.{data_of}
-use Rattle.record.specs.Reader.{well_formed, sums_to_zero, fields_of, reading, data_read}
+use Rattle.record.specs.Reader.{Reading, well_formed, sums_to_zero, fields_of, reading, data_read}
 use Rattle.record.specs.declared.fields.Fields.{Fields}
-use Rattle.record.specs.declared.fields.Reading.{Reading}
-use Rattle.record.specs.declared.fields.Reading.TheVariants.{Taken, WrongChecksum, Refused as Unread}
+use Rattle.record.specs.declared.reader.ReadError.TheVariants.{WrongChecksum, BadRecord}
 use Rattle.plug.specs.Config.{Config, level}
 use Rattle.plug.specs.Levels.{Command, allowed}
 use Rattle.plug.specs.Commands.{flash_size, form, bad_range}
@@ -56,7 +55,7 @@ module _ (b : Board) (hf : length b.flash ≡ flash_size) where
 
   -- what the reader answers, by its two tests
   of_tests : (t t' : Bool) (f : Fields) (cs : List ℕ)
-      → let r : Reading = if t then (if t' then Taken f else WrongChecksum) else Unread 17 in
+      → let r : Reading = if t then (if t' then Ok f else Err WrongChecksum) else Err BadRecord in
       Shape b (command_in r (data_read r cs)) (data_read r cs) (answer_to b r (data_read r cs))
   of_tests true true f cs = of_form (form f.kind f.offset (data_of cs f.length)) (data_of cs f.length)
   of_tests true false f cs = tells _ refl

@@ -1,11 +1,10 @@
 -- 002's examples, each record with the command that it is. Proved in proofs/ExamplesHold.antt. Two of them can't hold as they stand:
 -- `X` with a doubled line end, against every list of answers, and the version's record, whose type 01h is in no table.
-use Rattle.std.specs.Prelude.{◌≡◌, List, [], ◌∷◌, ◌++◌, ℕ, Option, None, Some}
+use Rattle.std.specs.Prelude.{◌≡◌, List, [], ◌∷◌, ◌++◌, ℕ, Option, None, Some, Ok, Err}
 use Rattle.memory.specs.Memory.{flash_address}
 use Rattle.lines.specs.Text.{ascii}
-use Rattle.record.specs.Reader.{reading, data_read}
-use Rattle.record.specs.declared.fields.Reading.{Reading}
-use Rattle.record.specs.declared.fields.Reading.TheVariants.{Taken, WrongChecksum, Refused as Unread}
+use Rattle.record.specs.Reader.{Reading, reading, data_read}
+use Rattle.record.specs.declared.reader.ReadError.TheVariants.{WrongChecksum}
 use Rattle.plug.specs.Config.{SsbLevel2, ToBsb, Sbv, Fixed, bootloader_version}
 use Rattle.plug.specs.Levels.{Command, Program, Display, BlankCheck, EraseBlock, EraseChip, Write, Read, StartReset, StartAt}
 use Rattle.plug.specs.Commands.{Block1, form}
@@ -13,9 +12,8 @@ use Rattle.plug.specs.Answers.{blank_text, value_text, display_line, display_tex
 
 -- the command of a record that is taken
 abbrev pub command_in : Reading → List ℕ → Option Command
-command_in (Taken f) d = form f.kind f.offset d
-command_in WrongChecksum d = None
-command_in (Unread n) d = None
+command_in (Ok f) d = form f.kind f.offset d
+command_in (Err e) d = None
 
 abbrev pub command_of : List ℕ → Option Command
 command_of cs = command_in (reading cs) (data_read (reading cs) cs)
@@ -29,7 +27,7 @@ pub record Examples : Type 0 where
   pub blank_ok : blank_text None ≡ ascii "." ++ line_end
   pub blank_at : blank_text (Some 0x1234) ≡ ascii "1234" ++ line_end
   -- "Blank Check with checksum error"
-  pub checksum_error : reading (ascii ":0500000400007FFF0170") ≡ WrongChecksum
+  pub checksum_error : reading (ascii ":0500000400007FFF0170") ≡ Err WrongChecksum
   -- "Display data from address 0000h to 0020h": lines of 16, 16 and 1 data
   pub display : command_of (ascii ":0500000400000020" ++ ascii "00D7") ≡ Some (Display (flash_address 0x0000) (flash_address 0x0020))
   pub display_lines_lem : (f : List ℕ) →

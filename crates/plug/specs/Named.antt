@@ -1,6 +1,6 @@
 -- What is built of its parts has each of them in its place: a configuration, a board, and the results of a record. Proved in
 -- proofs/NamedHolds.antt.
-use Rattle.std.specs.Prelude.{◌≡◌, List, [], ◌++◌, ℕ, ◌≤◌, ◌<◌, length, drop, None, Some}
+use Rattle.std.specs.Prelude.{◌≡◌, List, [], ◌++◌, ℕ, ◌≤◌, ◌<◌, length, drop, None, Some, Ok, Err}
 use Rattle.memory.specs.Memory.{page}
 use Rattle.memory.specs.Pages.{Store, store_all}
 use Rattle.memory.specs.Program.{bytes_stores}
@@ -9,7 +9,7 @@ use Rattle.memory.specs.declared.address.FlashAddress.{FlashAddress}
 use Rattle.blank.specs.Blank.{used_in}
 use Rattle.record.specs.Reader.{reading, data_read}
 use Rattle.record.specs.declared.fields.Fields.{Fields}
-use Rattle.record.specs.declared.fields.Reading.TheVariants.{Taken, WrongChecksum, Refused as Unread}
+use Rattle.record.specs.declared.reader.ReadError.TheVariants.{WrongChecksum, BadRecord, TooShort}
 use Rattle.plug.specs.Config.{Config, config, Setting, Byte, with_setting, byte_value, erased_config}
 use Rattle.plug.specs.Levels.{Command, Program, Display, BlankCheck, EraseBlock, EraseChip, Write, Read, StartReset, StartAt}
 use Rattle.plug.specs.Commands.{Block, flash_size, block_page, block_pages, form}
@@ -47,8 +47,9 @@ pub record Named : Type 0 where
   -- a record is answered by what was read of it, on a flash of 65,536 bytes
   pub flash_size_lem : flash_size ≡ 65536
   pub of_answer : (b : Board) (cs : List ℕ) → length b.flash ≡ 65536 → answer b cs ≡ answer_to b (reading cs) (data_read (reading cs) cs)
-  pub of_reading : (b : Board) (f : Fields) (d : List ℕ) (n : ℕ) → (answer_to b (Taken f) d ≡ obey_form b (form f.kind f.offset d) d)
-      × (answer_to b WrongChecksum d ≡ told b.config wrong_checksum_text) × (answer_to b (Unread n) d ≡ refused b.config n)
+  pub of_reading : (b : Board) (f : Fields) (d : List ℕ) → (answer_to b (Ok f) d ≡ obey_form b (form f.kind f.offset d) d)
+      × (answer_to b (Err WrongChecksum) d ≡ told b.config wrong_checksum_text)
+      × (answer_to b (Err BadRecord) d ≡ refused b.config 17) × (answer_to b (Err TooShort) d ≡ refused b.config 9)
   pub of_commands : (b : Board) (d : List ℕ) → Performs b d
   -- "otherwise the room past its answer"
   pub of_room : (r : Result) (room : List ℕ) → room_after r room ≡ r.text ++ drop (length r.text) room

@@ -1,13 +1,12 @@
 -- One record, and runs of them. Assumes nothing: these are definitions.
-use Rattle.std.specs.Prelude.{if◌then◌else◌, List, [], ◌∷◌, ℕ, eqb, ltb, length, replicate, Option, None, Some}
+use Rattle.std.specs.Prelude.{if◌then◌else◌, List, [], ◌∷◌, ℕ, eqb, ltb, length, replicate, Option, None, Some, Ok, Err}
 use Rattle.memory.specs.Memory.{page}
 use Rattle.memory.specs.Pages.{Store, store_all}
 use Rattle.memory.specs.Program.{bytes_stores}
 use Rattle.memory.specs.Erase.{pages_erase}
 use Rattle.blank.specs.Blank.{used_in}
-use Rattle.record.specs.Reader.{reading, data_read}
-use Rattle.record.specs.declared.fields.Reading.{Reading}
-use Rattle.record.specs.declared.fields.Reading.TheVariants.{Taken, WrongChecksum, Refused as Unread}
+use Rattle.record.specs.Reader.{Reading, reading, data_read}
+use Rattle.record.specs.declared.reader.ReadError.TheVariants.{WrongChecksum, BadRecord, TooShort}
 use Rattle.plug.specs.Config.{Config, level, with_setting, byte_value, erased_config}
 use Rattle.plug.specs.Levels.{Command, Program, Display, BlankCheck, EraseBlock, EraseChip, Write, Read, StartReset, StartAt, allowed}
 use Rattle.plug.specs.Commands.{flash_size, flash_pages, block_page, block_pages, form, bad_range}
@@ -80,9 +79,10 @@ obey_form b (Some k) d = obey b k d
 
 -- "then 17 for a character that is no hex digit or a record of wrong length; then `X` for a wrong checksum"
 abbrev pub answer_to : Board → Reading → List ℕ → Result
-answer_to b (Taken f) d = obey_form b (form f.kind f.offset d) d
-answer_to b WrongChecksum d = told b.config wrong_checksum_text
-answer_to b (Unread n) d = refused b.config n
+answer_to b (Ok f) d = obey_form b (form f.kind f.offset d) d
+answer_to b (Err WrongChecksum) d = told b.config wrong_checksum_text
+answer_to b (Err BadRecord) d = refused b.config 17
+answer_to b (Err TooShort) d = refused b.config 9
 
 -- "2 when the flash isn't 65,536 bytes": the answer, before the room is looked at
 unfoldable pub answer : Board → List ℕ → Result

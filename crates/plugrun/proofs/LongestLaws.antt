@@ -1,6 +1,6 @@
 -- No answer is longer than a display of all flash: a display ends at an address of two bytes.
 -- Assumes nothing.
-use Rattle.std.specs.Prelude.{if◌then◌else◌, Option, None, Some}
+use Rattle.std.specs.Prelude.{if◌then◌else◌, Option, None, Some, Ok, Err}
 use mathlib.Core.Logic.{⊎_elim}
 use mathlib.Core.Path.{◌≡◌, refl}
 use mathlib.Core.Bool.{Bool, true, false, ◌&&◌}
@@ -15,9 +15,8 @@ use Rattle.words.specs.Words.{byte_at, high_first}
 use Rattle.listing.proofs.LineLaws.{lt_or_ge}
 use Rattle.record.specs.Digits.{all_digits}
 use Rattle.record.specs.Record.{record_mark, character_count, bytes_of, data_of}
-use Rattle.record.specs.Reader.{length_field, well_formed, sums_to_zero, fields_of, reading, data_read}
-use Rattle.record.specs.declared.fields.Reading.{Reading}
-use Rattle.record.specs.declared.fields.Reading.TheVariants.{Taken, WrongChecksum, Refused as Unread}
+use Rattle.record.specs.Reader.{Reading, length_field, well_formed, sums_to_zero, fields_of, reading, data_read}
+use Rattle.record.specs.declared.reader.ReadError.TheVariants.{WrongChecksum, BadRecord}
 use Rattle.record.proofs.DigitsLaws.{and_true, pairs_bytes}
 use Rattle.blank.specs.Blank.{used_in}
 use Rattle.plug.specs.declared.command.Command.{Command}
@@ -147,7 +146,7 @@ module _ (b : Board) (size : length b.flash ≡ flash_size) where
       pick (allowed k (level b.config)) (λ y. of_perform k d h) (λ y. record { size = omega arith }))
 
   of_tests : (cs : List ℕ) (t t' : Bool) → well_formed cs ≡ t
-      → let r : Reading = if t then (if t' then Taken (fields_of cs) else WrongChecksum) else Unread 17 in Short (answer_to b r (data_read r cs))
+      → let r : Reading = if t then (if t' then Ok (fields_of cs) else Err WrongChecksum) else Err BadRecord in Short (answer_to b r (data_read r cs))
   of_tests cs true true w =
       let d = data_of cs (length_field cs) in
       let f = fields_of cs in
