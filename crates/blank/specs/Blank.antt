@@ -33,6 +33,13 @@ pub record Passed (a stop r : ℕ) (f : List ℕ) : Type 0 where
   pub in_range : r ≤ max a stop
   pub blank : AllBlank a r f
 
+-- of the places from a on before `stop`, x is the first whose byte is not FFh
+pub record FoundAt (a stop x : ℕ) (f : List ℕ) : Type 0 where
+  pub forward : a ≤ x
+  pub in_range : x < stop
+  pub blank : AllBlank a x f
+  pub used : get_or f x 0 ≡ 0xFF → ⊥
+
 -- the finding as the search answers it
 abbrev pub used_of : Option ℕ → Option FlashAddress
 used_of None = None

@@ -4,7 +4,7 @@ use Rattle.blank.specs.Blank.{Passed}
 use Rattle.blank.proofs.search.first_used.Given as goal
 
 abbrev pub invariant-loop-from : goal.invariant-loop-from
-invariant-loop-from l = Passed l.initial.from l.stop l.from l.flash
+invariant-loop-from l = Passed l.fn.start.0 l.stop l.from l.flash
 
 abbrev pub decreases-loop-from : goal.decreases-loop-from
 decreases-loop-from l = l.stop - l.from
