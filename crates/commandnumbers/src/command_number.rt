@@ -36,12 +36,12 @@ pub fn pack_command(command: Command) -> u64
         Command::BlankCheck(start, end) => pack_words(4, start.0, end.0, 0),
         Command::EraseBlock(block) => pack_block(block),
         Command::EraseChip => pack_words(8, 0, 0, 0),
-        Command::WriteByte(index, value) => pack_words(9, index as u16, value as u16, 0),
-        Command::WriteHsb(value) => pack_words(10, value as u16, 0, 0),
+        Command::WriteByte(index, value) => pack_words(9, u16::from(index), u16::from(value), 0),
+        Command::WriteHsb(value) => pack_words(10, u16::from(value), 0, 0),
         Command::StartReset => pack_words(11, 0, 0, 0),
         Command::StartAt(address) => pack_words(12, address.0, 0, 0),
         Command::ReadVersion => pack_words(13, 0, 0, 0),
-        Command::ReadByte(index) => pack_words(14, index as u16, 0, 0),
+        Command::ReadByte(index) => pack_words(14, u16::from(index), 0, 0),
         Command::ReadHsb => pack_words(15, 0, 0, 0),
     }
 }

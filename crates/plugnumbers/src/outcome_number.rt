@@ -10,7 +10,7 @@ const SECOND: u64 = 0x10000;
 fn pack_words(a: u16, b: u16) -> u64
     ensures { result ≡ packed a b }
 {
-    (a as u64) + SECOND * (b as u64)
+    u64::from(a) + SECOND * u64::from(b)
 }
 
 // The number of an outcome.
@@ -21,6 +21,6 @@ pub fn pack_outcome(outcome: Outcome) -> u64
         Outcome::Answered => pack_words(0, 0),
         Outcome::StartedReset => pack_words(2, 0),
         Outcome::StartedAt(address) => pack_words(3, address.0),
-        Outcome::Refused(number) => pack_words(4, number as u16),
+        Outcome::Refused(number) => pack_words(4, u16::from(number)),
     }
 }

@@ -23,7 +23,7 @@ pub fn pack_outcome(outcome: Outcome) -> u64
         Outcome::Done => pack_words(0, 0, 0, 0),
         Outcome::Stall => pack_words(1, 0, 0, 0),
         Outcome::Started(kind, address) => pack_started(kind, address),
-        Outcome::Refused(number) => pack_words(4, number as u16, 0, 0),
+        Outcome::Refused(number) => pack_words(4, u16::from(number), 0, 0),
     }
 }
 

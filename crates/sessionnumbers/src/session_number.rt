@@ -33,7 +33,7 @@ fn pack_pending(head: u16, pending: Pending) -> u64
         Pending::Nothing => pack_words(head, 0, 0, 0),
         Pending::MemoryRead(range) => pack_read(head, range),
         Pending::BlankReport(address) => pack_words(head, 3, address.0, 0),
-        Pending::OneByte(value) => pack_words(head, 4, value as u16, 0),
+        Pending::OneByte(value) => pack_words(head, 4, u16::from(value), 0),
         Pending::Start(kind, address) => pack_start(head, kind, address),
     }
 }
@@ -42,10 +42,10 @@ fn pack_pending(head: u16, pending: Pending) -> u64
 pub fn pack_session(session: Session) -> u64
     ensures { result ≡ pack_session session }
 {
-    let pending = session.pending;
-    pack_pending(two_bytes(session.state, session.status), pending)
+    pack_pending(two_bytes(session.state, session.status), session.pending)
 }
 
+#[tactic(auto, unfolding(numbers::specs::Layout::pending_of))]
 fn pending_of(kind: u16, first: u16, last: u16) -> Pending
     ensures { result ≡ pending_of kind first last }
 {
