@@ -31,7 +31,7 @@ fn accepted(config: Config, status: u8, pending: Pending, pages: u16) -> Answer
         },
         config,
         length: 0,
-        pages: pages as usize,
+        pages: usize::from(pages),
     }
 }
 
@@ -65,9 +65,7 @@ fn body(parts: Parts, sent: &[u8]) -> &[u8]
     requires suffix_in_bounds { parts.suffix ≤ length sent.now }
     ensures { result.now ≡ take (parts.suffix - parts.body) (drop parts.body sent.now) }
 {
-    let from = parts.body;
-    let to = parts.suffix;
-    &sent[from..to]
+    &sent[parts.body..parts.suffix]
 }
 
 // The first byte that is not FFh is reported with 05h.

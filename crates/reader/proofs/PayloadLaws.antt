@@ -1,6 +1,6 @@
 -- What a judgement tells of a payload, and what the reader answers for it.
 -- Assumes nothing.
-use Rattle.std.specs.Prelude.{if◌then◌else◌, Option, None, Some, Ok, Err, IsErrAnd}
+use Rattle.std.specs.Prelude.{if◌then◌else◌, Option, None, Some, Ok, Err}
 use mathlib.Core.Path.{◌≡◌, refl, sym, ap, ◌∙◌, subst}
 use mathlib.Core.Bool.{Bool, true, false}
 use mathlib.Core.List.{List}
@@ -44,17 +44,13 @@ read_judged = record {
   read = λ d. by_form (form d) d;
 }
 
--- the reader's answer to a payload that is judged so, and what a `?` returns
+-- the reader's answer to a payload that is judged so, and to one that is no command
 pub read_as : (d : List ℕ) (j : Judgement) → judgement d ≡ j → reading_of j ≡ read_command d
 read_as d j q = ap reading_of (sym q) ∙ read_judged.read d
 
 pub stalled : (d : List ℕ) (j : Judgement) (f : Fault) → judgement d ≡ j → ok_or j Stall ≡ Err f → Err f ≡ read_command d
 stalled d None f q e = let same : f ≡ Stall = cc in rw same (read_as d None q)
 stalled d (Some j) f q e = absurd (let z : ◌≡◌ {A = ℕ} 0 1 = cc in omega arith)
-
-pub passed_on : (r : Reading) (f : Fault) → IsErrAnd r (λ e. e ≡ f) → r ≡ Err f
-passed_on (Ok x) f q = absurd q
-passed_on (Err e) f q = ap Err q
 
 -- what a judgement tells of the form
 is_of : (o : Option Command) (k : Command) (x : Fit) (l : ℕ) → judged o l ≡ Some (k, x) → (o ≡ Some k) × (fit k l ≡ x)
