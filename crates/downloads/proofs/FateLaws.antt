@@ -1,6 +1,6 @@
 -- What DNLOAD answers for what becomes of a command.
 -- Assumes nothing.
-use Rattle.std.specs.Prelude.{if◌then◌else◌, Option, None, Some}
+use Rattle.std.specs.Prelude.{if◌then◌else◌, Option, None, Some, Ok, Err}
 use mathlib.Core.Path.{◌≡◌, refl, sym, ap, ◌∙◌, subst}
 use mathlib.Core.Bool.{Bool, true, false}
 use mathlib.Core.List.{List, []}
@@ -20,16 +20,15 @@ use Rattle.rules.specs.Levels.{level_status}
 use Rattle.rules.specs.Result.{Board, board, next, answer, reply}
 use Rattle.rules.specs.Commands.{Effect, stall, set_status, accept, perform, forbidden, obey, obey_form}
 use Rattle.rules.specs.Answered.{bare, Answered}
-use Rattle.fates.specs.Fate.{Fate, Taken, Sets, Stops, fate, fate_of, sized, sized_fate}
-use Rattle.fates.specs.Obeyed.{flash_after, eeprom_after, Fated}
-use Rattle.fates.specs.declared.fate.Obeyed.{Obeyed}
-use Rattle.fates.specs.declared.fate.Obeyed.TheVariants as O
+use Rattle.fates.specs.declared.fate.Failure.TheVariants.{Sets, Stops}
+use Rattle.fates.specs.Fate.{Fate, fate, fate_of, sized, sized_fate}
+use Rattle.fates.specs.Obeyed.{Obeyed, flash_after, eeprom_after, Fated}
 use Rattle.fates.proofs.FateLaws.{fate_session}
 use Rattle.downloads.specs.Download.{result_of, FatesObeyed}
 
 -- the order of the tests is that of the rules
 tests : (b : Board) (k : Command) (t v w : Bool) (x y : ℕ) (z : Effect)
-    → result_of b (if t then Sets x else if v then Sets y else if w then Stops else Taken k z)
+    → result_of b (if t then Err (Sets x) else if v then Err (Sets y) else if w then Err Stops else Ok (k, z))
     ≡ (if t then set_status b x else if v then set_status b y else if w then stall b else accept k z)
 tests b k true v w x y z = refl
 tests b k false true w x y z = refl
@@ -46,15 +45,15 @@ obeys b (Some k) d =
 module _ (b : Board) where
   flash_after_lem : (x : Fate) → flash_after x b.flash ≡ (next b (result_of b x)).flash
   unfolding stall
-  flash_after_lem (Taken k x) = refl
-  flash_after_lem (Sets s) = refl
-  flash_after_lem Stops = refl
+  flash_after_lem (Ok t) = refl
+  flash_after_lem (Err (Sets s)) = refl
+  flash_after_lem (Err Stops) = refl
 
   eeprom_after_lem : (x : Fate) → eeprom_after x b.eeprom ≡ (next b (result_of b x)).eeprom
   unfolding stall
-  eeprom_after_lem (Taken k x) = refl
-  eeprom_after_lem (Sets s) = refl
-  eeprom_after_lem Stops = refl
+  eeprom_after_lem (Ok t) = refl
+  eeprom_after_lem (Err (Sets s)) = refl
+  eeprom_after_lem (Err Stops) = refl
 
 pub fates_obeyed : FatesObeyed
 fates_obeyed = record {
@@ -67,7 +66,7 @@ fates_obeyed = record {
   stalled = refl;
 }
 
-by_size : (b : Board) (t : Bool) (d : List ℕ) → result_of b (if t then fate_of b (form d) d else Stops) ≡ (if t then obey_form b (form d) d else stall b)
+by_size : (b : Board) (t : Bool) (d : List ℕ) → result_of b (if t then fate_of b (form d) d else Err Stops) ≡ (if t then obey_form b (form d) d else stall b)
 by_size b true d = obeys b (form d) d
 by_size b false d = refl
 
@@ -77,9 +76,9 @@ sized_obeys b d = by_size b (sized b) d
 
 -- the answer to a fate as the code tells it
 abbrev answer_for : Session → Config → Obeyed → Answer
-answer_for s c (O.Taken a) = a
-answer_for s c (O.Sets status) = answer (reply c Done [] (session 10 status Nothing s.busy))
-answer_for s c O.Stops = answer (stall (bare s c))
+answer_for s c (Ok a) = a
+answer_for s c (Err (Sets status)) = answer (reply c Done [] (session 10 status Nothing s.busy))
+answer_for s c (Err Stops) = answer (stall (bare s c))
 
 -- what is done with an idle board's command is done with this one's
 module _ (s : Session) (c : Config) (f e d : List ℕ) {o : Obeyed} {f' e' : List ℕ}
@@ -89,14 +88,14 @@ module _ (s : Session) (c : Config) (f e d : List ℕ) {o : Obeyed} {f' e' : Lis
 
   same_fate : sized_fate (board idle c f e) d ≡ sized_fate b d
   unfolding sized_fate
-  same_fate = ap (λ x. if sized b then x else Stops) (fate_session idle s c f e d (form d))
+  same_fate = ap (λ x. if sized b then x else Err Stops) (fate_session idle s c f e d (form d))
 
   -- the answer is that of the fate as it is told
   by_fate : (x : Fate) (a : Answer) → Fated (board idle c f e) x o f' e' → a ≡ answer_for s c o → Answered b (result_of b x) a f' e'
   unfolding stall
-  by_fate (Taken k y) a u q = record { answered = q ∙ ap (answer_for s c) u.told; flash = u.flash; eeprom = u.eeprom }
-  by_fate (Sets n) a u q = record { answered = q ∙ ap (answer_for s c) u.told; flash = u.flash; eeprom = u.eeprom }
-  by_fate Stops a u q = record { answered = q ∙ ap (answer_for s c) u.told; flash = u.flash; eeprom = u.eeprom }
+  by_fate (Ok t) a u q = record { answered = q ∙ ap (answer_for s c) u.told; flash = u.flash; eeprom = u.eeprom }
+  by_fate (Err (Sets n)) a u q = record { answered = q ∙ ap (answer_for s c) u.told; flash = u.flash; eeprom = u.eeprom }
+  by_fate (Err Stops) a u q = record { answered = q ∙ ap (answer_for s c) u.told; flash = u.flash; eeprom = u.eeprom }
 
   pub answers : (a : Answer) (o' : Obeyed) → o ≡ o' → a ≡ answer_for s c o' → Answered b (result_of b (sized_fate b d)) a f' e'
   answers a o' told q =

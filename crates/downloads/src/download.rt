@@ -8,7 +8,7 @@ ghost use Rattle.fates.specs.Fate.{sized_fate};
 ghost use Rattle.downloads.specs.Download.{result_of, downloaded};
 
 use config::Config;
-use fates::{Obeyed, fate_of};
+use fates::{Failure, fate_of};
 use memory::{EEPROM_SIZE, FLASH_SIZE};
 use requests::{quiet, stall};
 use rules::{Answer, Outcome, Pending, Session};
@@ -35,9 +35,9 @@ fn command_sent(
         Answered b (result_of b (sized_fate b sent.now)) result flash.new eeprom.new }
 {
     match fate_of(config, sent, flash, eeprom) {
-        Obeyed::Taken(answer) => answer,
-        Obeyed::Sets(status) => failed(config, status, session.busy),
-        Obeyed::Stops => stall(session, config),
+        Ok(answer) => answer,
+        Err(Failure::Sets(status)) => failed(config, status, session.busy),
+        Err(Failure::Stops) => stall(session, config),
     }
 }
 
