@@ -52,7 +52,7 @@ fn program_pages(flash: &mut [u8], start: FlashAddress, bytes: &[u8]) -> usize
     let first = start.0 as usize;
     let n = bytes.len();
     let place = first % PAGE_SIZE;
-    let head = words::least((PAGE_SIZE - place) % PAGE_SIZE, n);
+    let head = ((PAGE_SIZE - place) % PAGE_SIZE).min(n);
     let count = (n - head) / PAGE_SIZE;
     let tail = head + PAGE_SIZE * count;
     let next = Page(((first + head) / PAGE_SIZE) as u16);
