@@ -1,4 +1,7 @@
 // The commands.
+ghost use Rattle.std.specs.Prelude.{◌≡◌, ◌≤◌};
+ghost use Rattle.plug.specs.Config.{bit_value};
+
 use memory::FlashAddress;
 
 // The four blocks of flash.
@@ -15,6 +18,17 @@ pub enum Block {
 pub enum Bit {
     Programmed,
     Unprogrammed,
+}
+
+impl From<Bit> for u8 {
+    ghost from_gives = { λ bit value. (value ≡ bit_value bit) × (value ≤ 1) };
+
+    fn from(bit: Bit) -> u8 {
+        match bit {
+            Bit::Programmed => 0,
+            Bit::Unprogrammed => 1,
+        }
+    }
 }
 
 // What "Program Configuration Information" sets.

@@ -1,14 +1,16 @@
--- The form of a record as the code answers it. Assumes nothing: these are a definition and a statement.
-use Rattle.std.specs.Prelude.{◌≡◌, Option, None, Some}
-use Rattle.plug.specs.declared.command.Command.{Command}
-pub use Rattle.plugtables.specs.declared.form.Form.{Form}
-pub use Rattle.plugtables.specs.declared.form.Form.TheVariants.{Is, Unlisted}
+-- The bit that a fuse is set to, as the code reads it. Assumes nothing: these are a definition and a statement.
+use Rattle.std.specs.Prelude.{if◌then◌else◌, ◌≡◌, ℕ, eqb, Option, None, Some}
+use Rattle.plug.specs.declared.command.Bit.{Bit}
+use Rattle.plug.specs.declared.command.Bit.TheVariants.{Programmed, Unprogrammed}
+use Rattle.plug.specs.declared.command.Setting.{Setting}
+use Rattle.plug.specs.declared.command.Command.TheVariants.{Write}
+use Rattle.plug.specs.Commands.{fuse_row}
 
-abbrev pub form_of : Option Command → Form
-form_of None = Unlisted
-form_of (Some k) = Is k
+-- "the "bit value" is 00h or 01h"
+abbrev pub fuse_bit : ℕ → Option Bit
+fuse_bit v = if eqb v 0x00 then Some Programmed else if eqb v 0x01 then Some Unprogrammed else None
 
--- the same: what stands in the table is told as its command
+-- of either fuse: what stands in the table is told as its command, and nothing else is
 pub record FormsTold : Type 0 where
-  pub listed : (k : Command) → form_of (Some k) ≡ Is k
-  pub unlisted : form_of None ≡ Unlisted
+  pub listed : (s : Bit → Setting) (v : ℕ) (x : Bit) → fuse_bit v ≡ Some x → fuse_row s v ≡ Some (Write (s x))
+  pub unlisted : (s : Bit → Setting) (v : ℕ) → fuse_bit v ≡ None → fuse_row s v ≡ None

@@ -9,5 +9,5 @@ mod form;
 mod setting;
 
 pub use allowed::is_allowed;
-pub use form::{Form, bad_range, form_of};
+pub use form::{bad_range, form_of};
 pub use setting::{byte_value, config_after_erase, delivered, erased, with_setting};
