@@ -1,7 +1,6 @@
 -- A record's answer by what the reader says of it.
 -- Assumes nothing.
-use Rattle.std.specs.Prelude.{Option, None, Some}
-use mathlib.Core.Path.{◌≡◌, refl, sym, ap, ◌∙◌}
+use mathlib.Core.Path.{◌≡◌, sym, ap, ◌∙◌}
 use mathlib.Core.List.{List}
 use Prim.Native.Nat.{ℕ, ◌≤◌}
 use lib.ListN.{length, take, drop}
@@ -17,21 +16,9 @@ use Rattle.record.specs.declared.fields.Reading.{Reading}
 use Rattle.record.specs.declared.fields.Reading.TheVariants.{Taken}
 use Rattle.record.proofs.RoundTripHolds.{data_size, read_whole}
 use Rattle.plug.specs.declared.answer.Answer.{Answer}
-use Rattle.plug.specs.declared.command.Command.{Command}
 use Rattle.plug.specs.Commands.{flash_size}
 use Rattle.plug.specs.Step.{Board, refused, answer_to, answer, in_room, step}
 use Rattle.plug.specs.Answered.{Stepped}
-use Rattle.plugtables.specs.Form.{form_of}
-use Rattle.plugtables.specs.declared.form.Form.TheVariants.{Is, Unlisted}
-
--- what a form says of the command
-pub listed : (o : Option Command) (k : Command) → form_of o ≡ Is k → o ≡ Some k
-listed None k q = absurd (let n : ◌≡◌ {A = ℕ} 0 1 = cc in omega arith)
-listed (Some j) k q = cc
-
-pub unlisted : (o : Option Command) → form_of o ≡ Unlisted → o ≡ None
-unlisted None q = refl
-unlisted (Some j) q = absurd (let n : ◌≡◌ {A = ℕ} 0 1 = cc in omega arith)
 
 -- a flash of another size
 pub wrong_size : (b : Board) (cs : List ℕ) (n : ℕ) {a : Answer} {f p p₀ : List ℕ} → (length b.flash ≡ flash_size → ⊥)

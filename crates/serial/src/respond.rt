@@ -6,7 +6,7 @@ ghost use Rattle.plug.specs.Answered.{Stepped};
 
 use plug::{Answer, Command, Config, FLASH_SIZE, Outcome};
 use plugcommands::perform;
-use plugtables::{Form, bad_range, form_of, is_allowed};
+use plugtables::{bad_range, form_of, is_allowed};
 use record::{Fields, MOST_DATA, Reading};
 use recordreader::read_record;
 use replies::{quiet, say};
@@ -46,8 +46,8 @@ fn obey_record(
         Stepped b (in_room config (length room.old) told) result flash.new room.new room.old }
 {
     match form_of(fields.kind, fields.offset, sent) {
-        Form::Is(command) => obey(config, command, sent, flash, room),
-        Form::Unlisted => quiet(config, Outcome::Refused(BAD_RECORD)),
+        Some(command) => obey(config, command, sent, flash, room),
+        None => quiet(config, Outcome::Refused(BAD_RECORD)),
     }
 }
 
