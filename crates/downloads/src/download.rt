@@ -20,7 +20,13 @@ const MOST_DATA: u16 = 1103;
 fn failed(config: Config, status: u8, busy: u16) -> Answer
     ensures { result ≡ answer (reply_of config Outcome.Done [] (session_of 10 status Pending.Nothing busy)) }
 {
-    quiet(config, Outcome::Done, 10, status, Pending::Nothing, busy)
+    let session = Session {
+        state: 10,
+        status,
+        pending: Pending::Nothing,
+        busy,
+    };
+    quiet(config, Outcome::Done, session)
 }
 
 // Data of 1 to 1,103 bytes, in state 2 or 5: what becomes of the command is the answer.
@@ -46,14 +52,12 @@ fn ended(session: Session, config: Config) -> Answer
     ensures { result ≡ answer (end_plain (bare session config)) }
 {
     if session.state == 5 {
-        return quiet(
-            config,
-            Outcome::Done,
-            6,
-            session.status,
-            Pending::Nothing,
-            session.busy,
-        );
+        let manifested = Session {
+            state: 6,
+            pending: Pending::Nothing,
+            ..session
+        };
+        return quiet(config, Outcome::Done, manifested);
     }
     stall(session, config)
 }
@@ -66,14 +70,14 @@ fn end_download(session: Session, config: Config) -> Answer
     let pending = session.pending;
     match pending {
         Pending::Start(kind, address) => match state {
-            3 | 5 => quiet(
-                config,
-                Outcome::Started(kind, address),
-                0,
-                session.status,
-                Pending::Nothing,
-                session.busy,
-            ),
+            3 | 5 => {
+                let started = Session {
+                    state: 0,
+                    pending: Pending::Nothing,
+                    ..session
+                };
+                quiet(config, Outcome::Started(kind, address), started)
+            }
             _ => stall(session, config),
         },
         Pending::Nothing => ended(session, config),

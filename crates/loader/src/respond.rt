@@ -55,25 +55,16 @@ pub fn step(
         Stepped b (ask b setup.now sent.now (length reply.old))
         result flash.new eeprom.new reply.new reply.old }
 {
-    let number = refusal_of(session, setup, sent, flash, eeprom, reply);
-    if number != 0 {
-        let pending = session.pending;
-        return quiet(
+    match refusal_of(session, setup, sent, flash, eeprom, reply) {
+        Err(refusal) => quiet(config, Outcome::Refused(refusal.number()), session),
+        Ok(()) => respond(
+            session,
             config,
-            Outcome::Refused(number),
-            session.state,
-            session.status,
-            pending,
-            session.busy,
-        );
+            request_of(setup),
+            sent,
+            flash,
+            eeprom,
+            reply,
+        ),
     }
-    respond(
-        session,
-        config,
-        request_of(setup),
-        sent,
-        flash,
-        eeprom,
-        reply,
-    )
 }

@@ -9,24 +9,22 @@ ghost use Rattle.rules.specs.Answered.{bare, Replied, first_of, Splits, Room, Se
 
 use config::{Config, Level};
 use memory::{EepromAddress, FlashAddress, Range};
-use requests::stall;
+use requests::{quiet, stall};
 use rules::{Answer, Outcome, Pending, Session};
 
 // Status 00h, a state, what is still pending, the busy count as it was, and how many bytes are sent.
 fn sent(config: Config, state: u8, pending: Pending, busy: u16, count: usize) -> Answer
     ensures { result ≡ sent_answer config state pending busy count }
 {
+    let session = Session {
+        state,
+        status: 0x00,
+        pending,
+        busy,
+    };
     Answer {
-        outcome: Outcome::Done,
-        session: Session {
-            state,
-            status: 0x00,
-            pending,
-            busy,
-        },
-        config,
         length: count,
-        pages: 0,
+        ..quiet(config, Outcome::Done, session)
     }
 }
 
@@ -97,8 +95,7 @@ fn send_report(busy: u16, config: Config, address: FlashAddress, n: u16, reply: 
     ensures { let sending = send_of (bare (idle_with busy) config) n (Pending.BlankReport address) in
         Replied sending result reply.new reply.old }
 {
-    let high = (address.0 / 256) as u8;
-    let low = (address.0 % 256) as u8;
+    let [high, low] = address.0.to_be_bytes();
     if n == 1 {
         words::lay(reply, 0, &[high]);
         return sent(config, 9, Pending::OneByte(low), busy, 1);
@@ -121,11 +118,7 @@ fn send_byte(busy: u16, config: Config, value: u8, n: u16, reply: &mut [u8]) -> 
 fn read_sent(level: Level) -> bool
     ensures { result ≡ read_sent level }
 {
-    match level {
-        Level::L0 => true,
-        Level::L1 => true,
-        Level::L2 => false,
-    }
+    matches!(level, Level::L0 | Level::L1)
 }
 
 // In state 5 or 9, with wLength over 0.
@@ -141,18 +134,18 @@ fn send(
     ensures { let b = board_of session config flash.now eeprom.now in
         Replied (send_pending b n) result reply.new reply.old }
 {
-    let pending = session.pending;
-    match pending {
-        Pending::Nothing => stall(session, config),
+    let busy = session.busy;
+    match session.pending {
         Pending::MemoryRead(range) => {
             if read_sent(config::level_of(config)) {
-                return send_read(session.busy, config, range, n, flash, eeprom, reply);
+                send_read(busy, config, range, n, flash, eeprom, reply)
+            } else {
+                stall(session, config)
             }
-            stall(session, config)
         }
-        Pending::BlankReport(address) => send_report(session.busy, config, address, n, reply),
-        Pending::OneByte(value) => send_byte(session.busy, config, value, n, reply),
-        Pending::Start(_, _) => stall(session, config),
+        Pending::BlankReport(address) => send_report(busy, config, address, n, reply),
+        Pending::OneByte(value) => send_byte(busy, config, value, n, reply),
+        Pending::Nothing | Pending::Start(_, _) => stall(session, config),
     }
 }
 
@@ -173,8 +166,7 @@ pub(crate) fn upload(
     if n == 0 {
         return stall(session, config);
     }
-    let state = session.state;
-    match state {
+    match session.state {
         5 | 9 => send(session, config, n, flash, eeprom, reply),
         _ => stall(session, config),
     }

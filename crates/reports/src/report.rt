@@ -19,10 +19,7 @@ const PAGE_TIME: u32 = 10;
 fn reports_busy(session: Session) -> bool
     ensures { result ≡ reports_busy session }
 {
-    if session.state != 3 {
-        return false;
-    }
-    0 < session.busy
+    session.state == 3 && 0 < session.busy
 }
 
 // The state that GETSTATUS enters where no page has to be waited for.
@@ -30,8 +27,7 @@ fn settled(state: u8) -> u8
     ensures { result ≡ settled_from state }
 {
     match state {
-        3 => 5,
-        4 => 5,
+        3 | 4 => 5,
         6 => 2,
         _ => state,
     }
@@ -42,9 +38,10 @@ fn entered(session: Session) -> u8
     ensures { result ≡ entered_from session }
 {
     if reports_busy(session) {
-        return 4;
+        4
+    } else {
+        settled(session.state)
     }
-    settled(session.state)
 }
 
 // The milliseconds that a host has to wait.
@@ -52,19 +49,17 @@ fn timeout(session: Session) -> u32
     ensures { result ≡ timeout_of session }
 {
     if reports_busy(session) {
-        return PAGE_TIME * (session.busy as u32);
+        PAGE_TIME * u32::from(session.busy)
+    } else {
+        0
     }
-    0
 }
 
 // The busy count after GETSTATUS: the one in state 4 clears it.
 fn busy_after(session: Session) -> u16
     ensures { result ≡ busy_after_status session }
 {
-    if session.state == 4 {
-        return 0;
-    }
-    session.busy
+    if session.state == 4 { 0 } else { session.busy }
 }
 
 // Status, the three bytes of the timeout, low byte first, the state entered, zero.
@@ -72,19 +67,13 @@ pub fn status_report(session: Session) -> Report
     ensures { result ≡ status_report session }
 {
     let state = entered(session);
-    let time = timeout(session);
-    let low = (time % 256) as u8;
-    let middle = (time / 256 % 256) as u8;
-    let high = (time / 65536 % 256) as u8;
-    let busy = busy_after(session);
-    let pending = session.pending;
+    let [low, middle, high, _] = timeout(session).to_le_bytes();
     Report {
         bytes: [session.status, low, middle, high, state, 0],
         session: Session {
             state,
-            status: session.status,
-            pending,
-            busy,
+            busy: busy_after(session),
+            ..session
         },
     }
 }

@@ -57,7 +57,8 @@ selected_sized (Flash a e) f m s = s.flash_size_lem
 selected_sized (Eeprom a e) f m s = s.eeprom_size_lem
 
 -- a transfer whose addresses and length are right can be programmed, into a memory of any size
-pub transfer_fit : (size a e : ℕ) (d m : List ℕ) → length m ≡ size → bad_ends size a e ≡ false → wrong_transfer (Some (laid (padding a) (count a e))) (length d) ≡ false
+pub transfer_fit : (size a e : ℕ) (d m : List ℕ) → length m ≡ size → bad_ends size a e ≡ false
+    → wrong_transfer (Some (laid (padding a) (count a e))) (length d) ≡ false
     → Programmable size a e (body_of a e d) m
 transfer_fit size a e d m h u w =
     let g = bad_ends_good size a e u in
