@@ -35,9 +35,9 @@ fn put_line(room: &mut [u8], at: usize, flash: &[u8], from: usize, to: usize) ->
     let end = body + 2 * (to - from);
     let high = (from / 256) as u8;
     let low = (from % 256) as u8;
-    lines::hex_text(&[high, low], room, at);
+    let _ = lines::hex_text(&[high, low], room, at);
     words::lay(room, equals, b"=");
-    lines::hex_text(&flash[from..to], room, body);
+    let _ = lines::hex_text(&flash[from..to], room, body);
     words::lay(room, end, b"\r\n");
     end + 2
 }
