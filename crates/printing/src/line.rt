@@ -6,7 +6,7 @@ ghost use Rattle.lines.specs.Line.{word_text, reply_text, space, request_line, c
 ghost use Rattle.lines.specs.Room.{put, request_size, refused_size, Stands};
 
 use crate::text::{digits, put_byte, put_number, put_text};
-use lines::{TooShort, Word, end_of, fits, hex_text};
+use lines::{TooShort, Word, fits, hex_text};
 
 // How many bytes of a line never vary in number: of a request's line five spaces, two hex digits and the line feed, and of the others
 // their words, spaces and the line feed.
@@ -54,17 +54,17 @@ fn dash_size(reply: &[u8]) -> usize
     ensures reply_value { result + 2 * length reply.now ≡ length (reply_text reply.now) }
     ensures upper_bound { result ≤ 1 }
 {
-    if 0 < reply.len() { 0 } else { 1 }
+    usize::from(reply.is_empty())
 }
 
 fn put_reply(room: &mut [u8], at: usize, reply: &[u8]) -> usize
     requires { at + length (reply_text reply.now) ≤ length room.old }
     ensures { Stands at (reply_text reply.now) room.old result room.new }
 {
-    if reply.len() == 0 {
+    if reply.is_empty() {
         put_byte(room, at, b'-')
     } else {
-        end_of(hex_text(reply, room, at))
+        hex_text(reply, room, at).unwrap()
     }
 }
 
@@ -73,7 +73,7 @@ fn put_status(room: &mut [u8], at: usize, status: u8) -> usize
     requires { at + 2 ≤ length room.old }
     ensures { Stands at (hex_byte status) room.old result room.new }
 {
-    end_of(hex_text(&[status], room, at))
+    hex_text(&[status], room, at).unwrap()
 }
 
 // Puts the line of a request.
