@@ -51,7 +51,7 @@ fn put_lines(room: &mut [u8], flash: &[u8], first: usize, past: usize) -> usize
     let mut place = 0;
     let mut from = first;
     while from < past {
-        let to = words::least(from + LINE, past);
+        let to = (from + LINE).min(past);
         place = put_line(room, place, flash, from, to);
         from = to;
     }

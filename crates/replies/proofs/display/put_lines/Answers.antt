@@ -10,10 +10,10 @@ loop-from-init c = none_displayed _ _ _ _ (omega arith)
 pub put_line-place-requires-clause-from_in_bounds : goal.put_line-place-requires-clause-from_in_bounds
 put_line-place-requires-clause-from_in_bounds c =
     let pre = c.requires in
-    line_fits c.loop-from.invariant _ c.loop-from-test.true c.least-to.ensures pre.first_lt_past.1 pre.flash_in_bounds
+    line_fits c.loop-from.invariant _ c.loop-from-test.true c.min-to.ensures pre.first_lt_past.1 pre.flash_in_bounds
 
 pub loop-from-preserved : goal.loop-from-preserved
-loop-from-preserved c = one_more c.loop-from.invariant _ c.loop-from-test.true c.least-to.ensures c.put_line-place.ensures
+loop-from-preserved c = one_more c.loop-from.invariant _ c.loop-from-test.true c.min-to.ensures c.put_line-place.ensures
 
 pub returns : goal.returns
 returns c = all_displayed c.loop-from.invariant (omega arith) c.loop-from-test.false
