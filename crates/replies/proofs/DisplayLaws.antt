@@ -34,21 +34,25 @@ module _ (c : Config) (a e : ℕ) (f : List ℕ) where
     unfolding displayed
     forward l = rw (eq-eqb (length f) flash_size h, le-ltb e a l)
 
--- a line, put in four pieces one after another
-pub line_put : (at from to : ℕ) (f m m₁ m₂ m₃ m₄ : List ℕ) → from < to → to ≤ length f → at + 7 + 2 * (to - from) ≤ length m
-    → m₁ ≡ laid at (hex_address from) m → m₂ ≡ laid (at + 4) (ascii "=") m₁
-    → m₃ ≡ laid (at + 4 + 1) (hex_bytes (take (to - from) (drop from f))) m₂ → m₄ ≡ laid (at + 4 + 1 + 2 * (to - from)) line_end m₃
-    → Stands at (display_line from (to - 1) f) m (at + 4 + 1 + 2 * (to - from) + 2) m₄
-line_put at from to f m m₁ m₂ m₃ m₄ h l r p₁ p₂ p₃ p₄ =
-    let bytes : List ℕ = hex_bytes (take (to - from) (drop from f)) in
-    let size : length bytes ≡ 2 * (to - from)
-    = length_hex_bytes (take (to - from) (drop from f)) ∙ ap (λ n. 2 * n) (length-take-le (to - from) (drop from f) (simp length-drop (omega arith))) in
-    let s₁ = laid_stands at (hex_address from) m m₁ (omega arith) p₁ in
-    let s₂ = laid_stands (at + 4) (ascii "=") m₁ m₂ (omega (arith, s₁.same_size)) p₂ in
-    let s₃ = laid_stands (at + 4 + 1) bytes m₂ m₃ (omega (arith, s₁.same_size, s₂.same_size, size)) p₃ in
-    let s₄ = laid_stands (at + 4 + 1 + 2 * (to - from)) line_end m₃ m₄ (omega (arith, s₁.same_size, s₂.same_size, s₃.same_size)) p₄ in
-    let part : suc (to - 1) - from ≡ to - from = omega arith in
-    rw part (joined (joined (joined s₁ s₂) (rw size at s₃)) s₄)
+-- a line, put in four pieces one after another: its address, `=`, its bytes, which fit behind them, and the line's end
+module _ (at from to equals : ℕ) (f m m₁ m₂ : List ℕ) (h : from < to) (l : to ≤ length f) (r : at + 7 + 2 * (to - from) ≤ length m)
+    (address : Stands at (hex_address from) m equals m₁) (p₂ : m₂ ≡ laid equals (ascii "=") m₁) where
+  size : length (hex_bytes (take (to - from) (drop from f))) ≡ 2 * (to - from)
+  size =
+      length_hex_bytes (take (to - from) (drop from f)) ∙ ap (λ n. 2 * n) (length-take-le (to - from) (drop from f) (simp length-drop (omega arith)))
+
+  begun : Stands at (hex_address from ++ ascii "=") m (equals + 1) m₂
+  begun = joined address (laid_stands equals (ascii "=") m₁ m₂ (omega (arith, address.ends, address.same_size)) p₂)
+
+  pub bytes_fit : equals + 1 + length (hex_bytes (take (to - from) (drop from f))) ≤ length m₂
+  bytes_fit = omega (arith, begun.ends, begun.same_size, size)
+
+  pub line_put : (end : ℕ) (m₃ m₄ : List ℕ) → Stands (equals + 1) (hex_bytes (take (to - from) (drop from f))) m₂ end m₃
+      → m₄ ≡ laid end line_end m₃ → Stands at (display_line from (to - 1) f) m (end + 2) m₄
+  line_put end m₃ m₄ s₃ p₄ =
+      let s₄ = laid_stands end line_end m₃ m₄ (omega (arith, begun.ends, begun.same_size, s₃.ends, s₃.same_size, size)) p₄ in
+      let part : suc (to - 1) - from ≡ to - from = omega arith in
+      rw part (joined (joined begun s₃) s₄)
 
 -- ---- line after line
 

@@ -59,13 +59,13 @@ pub says : (c : Config) (n : ℕ) {a : Answer} {p p₀ : List ℕ} (x y : List �
 says c n {a} {p} {p₀} x y e r = subst (λ t. Replied (in_room c n (told c t)) a p p₀) e r
 
 -- two pieces put into an array of their size are one text
-pub value_put : (v : ℕ) (m₁ m₂ : List ℕ) → m₁ ≡ laid 0 (hex_bytes (v ∷ [])) (replicate 5 0) → m₂ ≡ laid 2 done_text m₁ → m₂ ≡ value_text v
+pub value_put : (v end : ℕ) (m₁ m₂ : List ℕ) → Stands 0 (hex_bytes (v ∷ [])) (replicate 5 0) end m₁ → m₂ ≡ laid end done_text m₁ → m₂ ≡ value_text v
 unfolding laid
-value_put v m₁ m₂ p q = q ∙ rw p
+value_put v end m₁ m₂ s q = q ∙ rw (s.ends, s.text_laid) refl
 
-pub address_put : (a : ℕ) (m₁ m₂ : List ℕ) → m₁ ≡ laid 0 (hex_address a) (replicate 6 0) → m₂ ≡ laid 4 line_end m₁ → m₂ ≡ blank_text (Some a)
+pub address_put : (a end : ℕ) (m₁ m₂ : List ℕ) → Stands 0 (hex_address a) (replicate 6 0) end m₁ → m₂ ≡ laid end line_end m₁ → m₂ ≡ blank_text (Some a)
 unfolding laid
-address_put a m₁ m₂ p q = q ∙ rw p
+address_put a end m₁ m₂ s q = q ∙ rw (s.ends, s.text_laid) refl
 
 -- `.` CR LF where it fits
 pub done_fits : (c : Config) (n : ℕ) (m : List ℕ) → 3 ≤ length m → (done_in m c n ≡ done_answer c n) × (laid 0 done_text m ≡ overlay 0 done_text m)

@@ -17,8 +17,6 @@ const LINE: usize = 16;
 // How many characters of a line are no data: four digits, `=`, CR and LF.
 const LINE_REST: usize = 7;
 
-const ADDRESS_SIZE: usize = 4;
-
 // "2 when the flash isn't 65,536 bytes", "17 for .. a backward range".
 const WRONG_FLASH: u8 = 2;
 
@@ -30,14 +28,11 @@ fn put_line(room: &mut [u8], at: usize, flash: &[u8], from: usize, to: usize) ->
     requires from_in_bounds { at + 7 + 2 * (to - from) ≤ length room.old }
     ensures { Stands at (display_line from (to - 1) flash.now) room.old result room.new }
 {
-    let equals = at + ADDRESS_SIZE;
-    let body = equals + 1;
-    let end = body + 2 * (to - from);
     let high = (from / 256) as u8;
     let low = (from % 256) as u8;
-    let _ = lines::hex_text(&[high, low], room, at);
+    let equals = lines::hex_text(&[high, low], room, at).unwrap();
     words::lay(room, equals, b"=");
-    let _ = lines::hex_text(&flash[from..to], room, body);
+    let end = lines::hex_text(&flash[from..to], room, equals + 1).unwrap();
     words::lay(room, end, b"\r\n");
     end + 2
 }

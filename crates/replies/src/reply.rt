@@ -72,8 +72,8 @@ pub fn say_value(config: Config, value: u8, room: &mut [u8]) -> Answer
         Replied (in_room config (length room.old) said) result room.new room.old }
 {
     let mut text = [0u8; 5];
-    let _ = lines::hex_text(&[value], &mut text, 0);
-    words::lay(&mut text, 2, b".\r\n");
+    let end = lines::hex_text(&[value], &mut text, 0).unwrap();
+    words::lay(&mut text, end, b".\r\n");
     say(config, &text, room)
 }
 
@@ -85,7 +85,7 @@ pub fn say_address(config: Config, address: FlashAddress, room: &mut [u8]) -> An
     let high = (address.0 / 256) as u8;
     let low = (address.0 % 256) as u8;
     let mut text = [0u8; 6];
-    let _ = lines::hex_text(&[high, low], &mut text, 0);
-    words::lay(&mut text, 4, b"\r\n");
+    let end = lines::hex_text(&[high, low], &mut text, 0).unwrap();
+    words::lay(&mut text, end, b"\r\n");
     say(config, &text, room)
 }
