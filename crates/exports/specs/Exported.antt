@@ -1,7 +1,6 @@
 -- What the exported functions promise: the definitions of the other crates, told in numbers. Assumes nothing: these are definitions.
-use Rattle.std.specs.Prelude.{◌≡◌, List, ℕ, length}
-use Rattle.command.specs.declared.reader.Reading.{Reading}
-use Rattle.command.specs.declared.reader.Reading.TheVariants.{Taken, Stalls, BadAddress}
+use Rattle.std.specs.Prelude.{◌≡◌, List, ℕ, length, Ok, Err}
+use Rattle.command.specs.Reader.{Reading}
 use Rattle.rules.specs.Result.{Board, board, Result, next, pages, reply_after}
 use Rattle.numbers.specs.Layout.{session_of, config_of, pack_session, pack_config, pack_outcome, pack_command, number_after}
 
@@ -24,16 +23,13 @@ pub record StepTold (b : Board) (r : Result) (s c : ℕ) (p₀ : List ℕ) (outc
 
 -- the command and the places of its parts; where there is no command they stay as they were
 abbrev pub command_told : Reading → ℕ → ℕ
-command_told (Taken k p) before = pack_command k
-command_told Stalls before = before
-command_told BadAddress before = before
+command_told (Ok t) before = pack_command t.0
+command_told (Err f) before = before
 
 abbrev pub body_told : Reading → ℕ → ℕ
-body_told (Taken k p) before = p.body
-body_told Stalls before = before
-body_told BadAddress before = before
+body_told (Ok t) before = t.1.body
+body_told (Err f) before = before
 
 abbrev pub suffix_told : Reading → ℕ → ℕ
-suffix_told (Taken k p) before = p.suffix
-suffix_told Stalls before = before
-suffix_told BadAddress before = before
+suffix_told (Ok t) before = t.1.suffix
+suffix_told (Err f) before = before

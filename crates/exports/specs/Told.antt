@@ -1,8 +1,8 @@
 -- What a caller is told, case by case: what was asked for, and all else as it was. Proved in proofs/ToldHolds.antt.
-use Rattle.std.specs.Prelude.{◌≡◌, List, ℕ, length}
+use Rattle.std.specs.Prelude.{◌≡◌, List, ℕ, length, Ok, Err}
 use Rattle.command.specs.declared.command.Command.{Command}
 use Rattle.command.specs.declared.reader.Parts.{Parts}
-use Rattle.command.specs.declared.reader.Reading.TheVariants as C
+use Rattle.command.specs.declared.reader.Fault.TheVariants as C
 use Rattle.record.specs.declared.fields.Fields.{Fields}
 use Rattle.record.specs.declared.fields.Reading.TheVariants as R
 use Rattle.rules.specs.Result.{Board, Result, next, pages, reply_after}
@@ -19,9 +19,9 @@ use Rattle.exports.specs.Records.{numbered_plug, RecordTold, offset_told, kind_t
 -- the command and its places, and the fields of a record: told where it is taken, and else as they were
 pub record TakenTold : Type 0 where
   pub command : (k : Command) (p : Parts) (x y z : ℕ)
-      → (command_told (C.Taken k p) x ≡ pack_command k) × (body_told (C.Taken k p) y ≡ p.body) × (suffix_told (C.Taken k p) z ≡ p.suffix)
-  pub stall : (x y z : ℕ) → (command_told C.Stalls x ≡ x) × (body_told C.Stalls y ≡ y) × (suffix_told C.Stalls z ≡ z)
-  pub bad_address_lem : (x y z : ℕ) → (command_told C.BadAddress x ≡ x) × (body_told C.BadAddress y ≡ y) × (suffix_told C.BadAddress z ≡ z)
+      → (command_told (Ok (k, p)) x ≡ pack_command k) × (body_told (Ok (k, p)) y ≡ p.body) × (suffix_told (Ok (k, p)) z ≡ p.suffix)
+  pub stall : (x y z : ℕ) → (command_told (Err C.Stall) x ≡ x) × (body_told (Err C.Stall) y ≡ y) × (suffix_told (Err C.Stall) z ≡ z)
+  pub bad_address_lem : (x y z : ℕ) → (command_told (Err C.BadAddress) x ≡ x) × (body_told (Err C.BadAddress) y ≡ y) × (suffix_told (Err C.BadAddress) z ≡ z)
   pub fields : (f : Fields) (x y z : ℕ)
       → (offset_told (R.Taken f) x ≡ f.offset) × (kind_told (R.Taken f) y ≡ f.kind) × (count_told (R.Taken f) z ≡ f.length)
   pub wrong_checksum : (x y z : ℕ) → (offset_told R.WrongChecksum x ≡ x) × (kind_told R.WrongChecksum y ≡ y) × (count_told R.WrongChecksum z ≡ z)

@@ -18,7 +18,6 @@ ghost use Rattle.rules.specs.Step.{ask};
 ghost use Rattle.numbers.specs.Layout.{pack_session, pack_config, command_of};
 ghost use Rattle.exports.specs.Exported.{StepTold, numbered, command_told, body_told, suffix_told};
 
-use command::Reading;
 use job::Verdict;
 pub use records::{serial_delivered, serial_read_record, serial_step, serial_write_record};
 use sessionnumbers::{number_after, pack_outcome, pack_session, session_of};
@@ -95,16 +94,12 @@ pub extern "C" fn loader_read_command(
     ensures suffix_after { suffix.new ≡ suffix_told (read_command sent.now) suffix.old }
 {
     let reading = reader::read_command(sent);
-    let status = reader::reading_status(reading);
-    match reading {
-        Reading::Taken(read, parts) => {
-            *command = commandnumbers::pack_command(read);
-            *body = parts.body;
-            *suffix = parts.suffix;
-            status
-        }
-        Reading::Stalls | Reading::BadAddress => status,
+    if let Ok((read, parts)) = reading {
+        *command = commandnumbers::pack_command(read);
+        *body = parts.body;
+        *suffix = parts.suffix;
     }
+    reader::reading_status(reading)
 }
 
 // Writes a command into the room: 0, or the number of the refusal. `count` gets how many bytes were written.
