@@ -1,5 +1,6 @@
 -- A record's answer by what the reader says of it.
 -- Assumes nothing.
+use Rattle.std.specs.Prelude.{Ok}
 use mathlib.Core.Path.{◌≡◌, sym, ap, ◌∙◌}
 use mathlib.Core.List.{List}
 use Prim.Native.Nat.{ℕ, ◌≤◌}
@@ -10,10 +11,8 @@ use borrow.Author.Tests.{eq-eqb, ne_eqb}
 use Rattle.words.specs.Words.{overlay}
 use Rattle.words.proofs.WordsLaws.{length_overlay, overlay_front}
 use Rattle.record.specs.Record.{most_data, data_of}
-use Rattle.record.specs.Reader.{reading, data_read, read_record, room_read}
+use Rattle.record.specs.Reader.{Reading, reading, data_read, read_record, room_read}
 use Rattle.record.specs.declared.fields.Fields.{Fields}
-use Rattle.record.specs.declared.fields.Reading.{Reading}
-use Rattle.record.specs.declared.fields.Reading.TheVariants.{Taken}
 use Rattle.record.proofs.RoundTripHolds.{data_size, read_whole}
 use Rattle.plug.specs.declared.answer.Answer.{Answer}
 use Rattle.plug.specs.Commands.{flash_size}
@@ -37,18 +36,18 @@ module _ (cs room : List ℕ) (whole : length room ≡ most_data) (r : Reading) 
   pub was_read : (x : Reading) → r ≡ x → reading cs ≡ x
   was_read x e = sym (read_whole cs room (omega arith)).0 ∙ sym q ∙ e
 
-  module _ (f : Fields) (e : r ≡ Taken f) (room' : List ℕ) (left : room' ≡ room_read cs room) where
+  module _ (f : Fields) (e : r ≡ Ok f) (room' : List ℕ) (left : room' ≡ room_read cs room) where
     d : List ℕ
     d = data_of cs f.length
 
     laid_there : room' ≡ overlay 0 d room
     unfolding d
-    laid_there = left ∙ (read_whole cs room (omega arith)).1 ∙ rw (was_read (Taken f) e)
+    laid_there = left ∙ (read_whole cs room (omega arith)).1 ∙ rw (was_read (Ok f) e)
 
     pub data_inside : f.length ≤ length room'
     unfolding d
     data_inside =
-        let size = data_size cs f (was_read (Taken f) e) in
+        let size = data_size cs f (was_read (Ok f) e) in
         omega (arith, ap length laid_there ∙ length_overlay 0 (data_of cs f.length) room (omega arith))
 
     pub data_count_lem : f.length ≡ length (take f.length room')
@@ -57,6 +56,6 @@ module _ (cs room : List ℕ) (whole : length room ≡ most_data) (r : Reading) 
     pub data_front : take f.length room' ≡ data_of cs f.length
     unfolding d
     data_front =
-        let size = (data_size cs f (was_read (Taken f) e)).0 in
+        let size = (data_size cs f (was_read (Ok f) e)).0 in
         let body = data_of cs f.length in
         ap (take f.length) (laid_there ∙ overlay_front body room) ∙ take_at body (drop (length body) room) f.length size
