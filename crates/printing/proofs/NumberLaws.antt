@@ -1,9 +1,10 @@
 -- A number's digits: the last one, and those before it.
 -- Assumes nothing.
 use Rattle.std.specs.Prelude.{if◌then◌else◌}
-use mathlib.Core.Path.{◌≡◌, ap, ◌∙◌}
+use mathlib.Core.Path.{◌≡◌, sym, ap, ◌∙◌}
 use mathlib.Core.List.{[], ◌∷◌, ◌++◌}
-use Prim.Native.Nat.{ℕ, zero, suc, ◌+◌, ◌*◌, ◌/◌, ◌%◌, ◌≤◌, ◌<◌}
+use Prim.Native.Nat.{ℕ, zero, suc, ◌+◌, ◌*◌, ◌/◌, ◌%◌, ◌≤◌, ◌<◌, ◌^◌, max}
+use Rattle.std.proofs.Math.Nat.{pow-suc}
 use native.Mathlib.Omega.{arith}
 use lib.Dec.{ltb}
 use lib.ListN.{length, length-append}
@@ -36,3 +37,23 @@ unfolding decimal
 decimal_one n h =
     let e : n % 10 ≡ n = omega arith in
     rw (lt-ltb n 10 h) (rw e)
+
+-- how many digits a number has, by the power of ten that it reaches; 0 has as many as 1
+some_power : (k : ℕ) → 1 ≤ 10 ^ k
+some_power zero = omega arith
+some_power (suc k) = omega (arith, pow-suc 10 k, some_power k)
+
+length_by_power : (k n : ℕ) → 10 ^ k ≤ n → n < 10 * 10 ^ k → n < tens most_digits → length (decimal n) ≡ k + 1
+length_by_power zero n low high small = ap length (decimal_one n (omega (arith, high)))
+length_by_power (suc k) n low high small =
+    let more : 10 ^ suc k ≡ 10 ^ k * 10 = pow-suc 10 k in
+    let tenth : length (decimal (n / 10)) ≡ k + 1
+    = length_by_power k (n / 10) (omega (arith, more, low)) (omega (arith, more, high)) (omega (arith, small)) in
+    omega (arith, tenth, length_decimal_last n (omega (arith, more, low, some_power k)) small)
+
+pub length_by_log : (k n m : ℕ) → m ≡ max n 1 → 10 ^ k ≤ m → m < 10 * 10 ^ k → n < tens most_digits → length (decimal n) ≡ k + 1
+length_by_log k zero m e low high small =
+    ap length (decimal_one 0 (omega arith))
+    ∙ sym (ap length (decimal_one 1 (omega arith)))
+    ∙ length_by_power k 1 (omega (arith, e, low)) (omega (arith, e, high)) (omega arith)
+length_by_log k (suc n) m e low high small = length_by_power k (suc n) (omega (arith, e, low)) (omega (arith, e, high)) small

@@ -8,13 +8,7 @@ pub(crate) fn digits(number: usize) -> usize
     ensures value { result ≡ length (decimal number) }
     ensures upper_bound { result ≤ most_digits }
 {
-    let mut count = 1;
-    let mut rest = number;
-    while 9 < rest {
-        rest = rest / 10;
-        count += 1;
-    }
-    count
+    number.max(1).ilog10() as usize + 1
 }
 
 // Puts one byte.
