@@ -4,14 +4,18 @@ use Rattle.lines.specs.Text.{ascii, decimal, hex_digit, hex_byte, hex_bytes}
 pub use Rattle.lines.specs.declared.line.Word.{Word}
 pub use Rattle.lines.specs.declared.line.Word.TheVariants.{Done, Stall, Start, Answered, Reset, Refused}
 
--- "`done` .. , `stall`, `start` or `refK`" of a request; of a record `answered`, `reset`, `start` or `refK`
+-- "`done` .. , `stall`, `start` or `refK`" of a request; of a record `answered`, `reset`, `start` or `refK`: the letters, and the K
+abbrev pub letters : Word → List ℕ
+letters Done = ascii "done"
+letters Stall = ascii "stall"
+letters Start = ascii "start"
+letters Answered = ascii "answered"
+letters Reset = ascii "reset"
+letters (Refused k) = ascii "ref"
+
 abbrev pub word_text : Word → List ℕ
-word_text Done = ascii "done"
-word_text Stall = ascii "stall"
-word_text Start = ascii "start"
-word_text Answered = ascii "answered"
-word_text Reset = ascii "reset"
-word_text (Refused k) = ascii "ref" ++ decimal k
+word_text (Refused k) = letters (Refused k) ++ decimal k
+word_text w = letters w
 
 -- "reply in capital hex or `-`"
 abbrev pub reply_text : List ℕ → List ℕ

@@ -2,7 +2,7 @@
 ghost use Rattle.std.specs.Prelude.{◌≡◌, ◌++◌, ◌+◌, ◌*◌, ◌≤◌, ◌<◌, length};
 ghost use Rattle.words.specs.Words.{laid};
 ghost use Rattle.lines.specs.Text.{most_digits, decimal, hex_byte};
-ghost use Rattle.lines.specs.Line.{word_text, reply_text, space, request_line, count_line, job_line, refused_line};
+ghost use Rattle.lines.specs.Line.{letters, word_text, reply_text, space, request_line, count_line, job_line, refused_line};
 ghost use Rattle.lines.specs.Room.{put, request_size, refused_size, Stands};
 
 use crate::text::{digits, put_byte, put_number, put_text};
@@ -16,17 +16,28 @@ const JOB_REST: usize = 5;
 
 const REFUSED_REST: usize = 13;
 
+// The letters of a word, before the number that a refusal has.
+fn letters(word: Word) -> &'static [u8]
+    ensures { result.now ≡ letters word }
+{
+    match word {
+        Word::Done => b"done",
+        Word::Stall => b"stall",
+        Word::Start => b"start",
+        Word::Answered => b"answered",
+        Word::Reset => b"reset",
+        Word::Refused(_) => b"ref",
+    }
+}
+
 pub(crate) fn word_size(word: Word) -> usize
     ensures value { result ≡ length (word_text word) }
     ensures upper_bound { result ≤ 3 + most_digits }
 {
+    let size = letters(word).len();
     match word {
-        Word::Done => 4,
-        Word::Stall => 5,
-        Word::Start => 5,
-        Word::Answered => 8,
-        Word::Reset => 5,
-        Word::Refused(number) => 3 + digits(number as usize),
+        Word::Refused(number) => size + digits(number as usize),
+        _ => size,
     }
 }
 
@@ -36,16 +47,10 @@ pub(crate) fn put_word(room: &mut [u8], at: usize, word: Word) -> usize
     ensures stands { Stands at (word_text word ++ space) room.old result room.new }
     ensures value { result ≡ at + length (word_text word) + 1 }
 {
+    let end = put_text(room, at, letters(word));
     match word {
-        Word::Done => put_text(room, at, b"done "),
-        Word::Stall => put_text(room, at, b"stall "),
-        Word::Start => put_text(room, at, b"start "),
-        Word::Answered => put_text(room, at, b"answered "),
-        Word::Reset => put_text(room, at, b"reset "),
-        Word::Refused(number) => {
-            let end = put_text(room, at, b"ref");
-            put_number(room, end, number as usize, b' ')
-        }
+        Word::Refused(number) => put_number(room, end, number as usize, b' '),
+        _ => put_byte(room, end, b' '),
     }
 }
 
