@@ -28,23 +28,21 @@ fn sent(config: Config, state: u8, pending: Pending, busy: u16, count: usize) ->
     }
 }
 
-fn first_of(range: Range, n: u16) -> Range
+// The first n bytes of a range, and the rest of it.
+fn split(range: Range, n: u16) -> (Range, Range)
     requires { Splits n range }
-    ensures { result ≡ first_of n range }
+    ensures first { result.0 ≡ first_of n range }
+    ensures rest { result.1 ≡ rest_of n range }
 {
     match range {
-        Range::Flash(start, _) => Range::Flash(start, FlashAddress(start.0 + (n - 1))),
-        Range::Eeprom(start, _) => Range::Eeprom(start, EepromAddress(start.0 + (n - 1))),
-    }
-}
-
-fn rest_of(range: Range, n: u16) -> Range
-    requires { Splits n range }
-    ensures { result ≡ rest_of n range }
-{
-    match range {
-        Range::Flash(start, end) => Range::Flash(FlashAddress(start.0 + n), end),
-        Range::Eeprom(start, end) => Range::Eeprom(EepromAddress(start.0 + n), end),
+        Range::Flash(start, end) => (
+            Range::Flash(start, FlashAddress(start.0 + (n - 1))),
+            Range::Flash(FlashAddress(start.0 + n), end),
+        ),
+        Range::Eeprom(start, end) => (
+            Range::Eeprom(start, EepromAddress(start.0 + (n - 1))),
+            Range::Eeprom(EepromAddress(start.0 + n), end),
+        ),
     }
 }
 
@@ -74,15 +72,10 @@ fn send_read(
         Replied (send_of b n (Pending.MemoryRead range)) result reply.new reply.old }
 {
     let all = command::range_count(range);
-    if (n as usize) < all {
-        let count = read_range(first_of(range, n), flash, eeprom, reply);
-        return sent(
-            config,
-            9,
-            Pending::MemoryRead(rest_of(range, n)),
-            busy,
-            count,
-        );
+    if usize::from(n) < all {
+        let (first, rest) = split(range, n);
+        let count = read_range(first, flash, eeprom, reply);
+        return sent(config, 9, Pending::MemoryRead(rest), busy, count);
     }
     let count = read_range(range, flash, eeprom, reply);
     sent(config, 2, Pending::Nothing, busy, count)

@@ -9,7 +9,7 @@ pub enum Outcome {
     Done,
     Stall,
     Started(StartKind, FlashAddress),
-    // The paper's number.
+    // The paper's number. Stays a number: what is told of an outcome, and its packing for C, is promised of every number.
     Refused(u8),
 }
 

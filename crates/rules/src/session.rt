@@ -19,6 +19,7 @@ pub enum Pending {
 }
 
 // P5 of 02: "The session record gets a busy page count."
+// Stays: state and status are bytes, since a lent session may hold any byte, and refusal 6 is for those that are none.
 #[derive(Clone, Copy)]
 pub struct Session {
     pub state: u8,
