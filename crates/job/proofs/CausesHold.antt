@@ -47,10 +47,11 @@ pub causes : Causes
 unfolding verdict requests_of
 causes = record {
   field = field_causes;
-  sixteen = λ file h. rw (lt-ltb most_file (length file) h);
+  sixteen = λ file h. rw (lt-ltb most_file (length file) h) (refl, refl);
   none_held = λ file h. rw (lt-ltb most_file (length file) h);
   accepted_0 = (refl, refl);
-  refused_k = λ k p. (refl, refl);
+  refused_k = λ c p. (refl, refl);
+  numbers = (refl, refl, refl, refl, refl, refl);
   request_met = λ start size. (refl, refl, refl);
   none_met = (refl, refl, refl);
 }

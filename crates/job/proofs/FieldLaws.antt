@@ -1,20 +1,19 @@
 -- Laws of one field: how far it reaches, and its verdict by the tests that lead to it.
 -- Assumes nothing.
-use Rattle.std.specs.Prelude.{if◌then◌else◌}
+use Rattle.std.specs.Prelude.{if◌then◌else◌, Option, Some, None, Result, Ok, Err, MatchResult, IsErrAnd, ok_or}
+use Rattle.std.specs.Bool.{then_some}
 use mathlib.Core.Path.{◌≡◌, refl, sym, ◌∙◌}
 use mathlib.Core.Logic.{◌⊎◌, inl, inr, ⊎_elim}
 use mathlib.Core.Bool.{Bool, true, false}
 use mathlib.Core.List.{List}
 use Prim.Native.Nat.{ℕ, suc, ◌+◌, ◌*◌, ◌≤◌, ◌<◌}
 use native.Mathlib.Omega.{arith}
-use lib.Dec.{ltb, eqb}
+use lib.Dec.{ltb, leb, eqb}
 use lib.ListN.{get_or}
-use borrow.Author.Tests.{le-ltb, lt-ltb, le-leb, eq-eqb, ne_eqb, eqb-true, eqb-false, ltb-true, ltb-false}
-use Rattle.job.specs.Field.{tag_at, length_at, value_at, end_at, request_tag, group_tag, by_tag, beyond, tag_refusal}
-use Rattle.job.specs.Verdict.{Verdict, Accepted, Refused, field_verdict}
+use borrow.Author.Tests.{le-ltb, lt-ltb, le-leb, lt-leb, eq-eqb, ne_eqb, eqb-true, eqb-false, ltb-true, ltb-false}
+use Rattle.job.specs.Field.{tag_at, length_at, value_at, end_at, request_tag, group_tag, by_tag, Cause, Beyond, beyond, tag_refusal}
+use Rattle.job.specs.Verdict.{Verdict, Refusal, accepted, refused, field_verdict}
 use Rattle.job.specs.Read.{reach_of}
-use Rattle.job.specs.declared.field.Reach.{Reach}
-use Rattle.job.specs.declared.field.Reach.TheVariants.{Within, Beyond}
 
 -- ---- cases on numbers
 
@@ -46,13 +45,39 @@ module _ {A : Type 0} (tag : ℕ) (request group other : A) where
 pub length_at_bytes : (file : List ℕ) (at : ℕ) → length_at file at ≡ 256 * get_or file (at + 1) 0 + get_or file (at + 2) 0
 length_at_bytes file at = let e : suc (at + 1) ≡ at + 2 = omega arith in rw e (omega arith)
 
-is_beyond : (b : Bool) (n : ℕ) → (if b then Beyond else Within n) ≡ Beyond → b ≡ true
+is_beyond : (b : Bool) (n : ℕ) → (if b then None else Some n) ≡ None → b ≡ true
 is_beyond true n e = refl
 is_beyond false n e = cc
 
-is_within : (b : Bool) (n size : ℕ) → (if b then Beyond else Within n) ≡ Within size → (b ≡ false) × (size ≡ n)
+is_within : (b : Bool) (n size : ℕ) → (if b then None else Some n) ≡ Some size → (b ≡ false) × (size ≡ n)
 is_within true n size e = let z : ◌≡◌ {A = ℕ} 0 1 = cc in absurd (omega arith)
 is_within false n size e = (refl, cc)
+
+-- what the code makes of a size that there is not, and of one that there is
+pub no_size : (o : Option ℕ) (e r : Refusal) → ok_or o e ≡ Err r → (o ≡ None) × (e ≡ r)
+no_size None e r q = (refl, cc)
+no_size (Some x) e r q = absurd (cc)
+
+a_size : (o : Option ℕ) (e : Refusal) (size : ℕ) → ok_or o e ≡ Ok size → o ≡ Some size
+a_size None e size q = absurd (cc)
+a_size (Some x) e size q = cc
+
+-- what the code makes of what a tag refuses
+module _ (P : Cause → Refusal → Type 0) (o : Result (Unit {0}) Cause) (m : Result (Unit {0}) Refusal)
+    (made : MatchResult o (λ x. m ≡ Ok x) (λ c. IsErrAnd m (P c))) where
+  pub tag_refused : (r : Refusal) → m ≡ Err r → (c : Cause) × (o ≡ Err c) × P c r
+  tag_refused r f = by o made
+    where
+      by : (o : Result (Unit {0}) Cause) → MatchResult o (λ x. m ≡ Ok x) (λ c. IsErrAnd m (P c)) → (c : Cause) × (o ≡ Err c) × P c r
+      by (Ok u) e = absurd (cc)
+      by (Err c) e = (c, refl, rw f at e)
+
+  pub tag_passed : (u : Unit {0}) → m ≡ Ok u → o ≡ Ok tt
+  tag_passed u f = by o made
+    where
+      by : (o : Result (Unit {0}) Cause) → MatchResult o (λ x. m ≡ Ok x) (λ c. IsErrAnd m (P c)) → o ≡ Ok tt
+      by (Ok v) e = refl
+      by (Err c) e = absurd (rw f at e)
 
 -- a value of a size lies within what ends at `end`
 pub record Inside (file : List ℕ) (at end size : ℕ) : Type 0 where
@@ -66,20 +91,21 @@ module _ (file : List ℕ) (at end : ℕ) where
   pub end_beyond : end ≤ at → beyond file at end ≡ true
   end_beyond h = simp (lt-ltb end (value_at at) (omega arith))
 
-  pub reach_short : end < value_at at → Beyond ≡ reach_of file at end
+  pub reach_short : end < value_at at → None ≡ reach_of file at end
   unfolding reach_of
   reach_short h = simp (lt-ltb _ _ h)
 
-  pub reach_beyond : value_at at ≤ end → end < end_at file at → Beyond ≡ reach_of file at end
+  -- the code has the bytes behind the head and the length in locals
+  pub reach_whole : (left size : ℕ) → value_at at + left ≡ end → size ≡ length_at file at → then_some (leb size left) size ≡ reach_of file at end
   unfolding reach_of
-  reach_beyond h k = simp (le-ltb _ _ h, lt-ltb _ _ k)
+  reach_whole left size l e =
+      let head : value_at at ≤ end = omega (arith, l) in
+      ⊎_elim
+      (λ (h : left < size). rw (lt-leb _ _ h, le-ltb _ _ head, lt-ltb end (end_at file at) (omega (arith, h, l, e))))
+      (λ (h : size ≤ left). rw (le-leb _ _ h, le-ltb _ _ head, le-ltb end (end_at file at) (omega (arith, h, l, e)), e))
+      (lt_or_ge left size)
 
-  -- the code has the length in a local
-  pub reach_within : (size : ℕ) → size ≡ length_at file at → value_at at + size ≤ end → Within size ≡ reach_of file at end
-  unfolding reach_of
-  reach_within size e k = simp (le-ltb end (value_at at) (omega arith), le-ltb end (end_at file at) (omega arith), e)
-
-  pub went_beyond : (r : Reach) → r ≡ reach_of file at end → r ≡ Beyond → beyond file at end ≡ true
+  pub went_beyond : (r : Option ℕ) → r ≡ reach_of file at end → r ≡ None → beyond file at end ≡ true
   unfolding reach_of
   went_beyond r e f = is_beyond _ _ (sym e ∙ f)
 
@@ -102,27 +128,30 @@ module _ (file : List ℕ) (at end : ℕ) where
       simp (le-ltb later (value_at at) (omega (arith, f.0)), le-ltb later (end_at file at) (omega (arith, f.1)))
 
   -- what `reach_of` answered
-  pub within : (r : Reach) (size : ℕ) → r ≡ reach_of file at end → r ≡ Within size → Inside file at end size
+  pub within : (r : Option ℕ) (size : ℕ) → r ≡ reach_of file at end → r ≡ Some size → Inside file at end size
   unfolding reach_of
   within r size e f =
       let w = is_within _ _ _ (sym e ∙ f) in
       let o = fits w.0 in
       record { not_beyond = w.0; sized = w.1; head_fits = o.0; value_fits = omega (arith, w.1, o.1) }
 
+  pub within_or : (o : Option ℕ) (w : Result ℕ Refusal) (e : Refusal) (size : ℕ) → o ≡ reach_of file at end → w ≡ ok_or o e → w ≡ Ok size → Inside file at end size
+  within_or o w e size r v q = within o size r (a_size o e size (sym v ∙ q))
+
 -- ---- the verdict on a field
 
 module _ (inside : Verdict) (file : List ℕ) (at end depth : ℕ) where
-  pub field_beyond : beyond file at end ≡ true → field_verdict inside file at end depth ≡ Refused 11 at
+  pub field_beyond : beyond file at end ≡ true → field_verdict inside file at end depth ≡ refused Beyond at
   unfolding field_verdict
   field_beyond b = simp b
 
-  pub field_bad : (number : ℕ) → beyond file at end ≡ false → tag_refusal (tag_at file at) (length_at file at) depth ≡ number → (number ≡ 0 → ⊥)
-      → field_verdict inside file at end depth ≡ Refused number at
+  pub field_bad : (c : Cause) → beyond file at end ≡ false → tag_refusal (tag_at file at) (length_at file at) depth ≡ Err c
+      → field_verdict inside file at end depth ≡ refused c at
   unfolding field_verdict
-  field_bad number b r n = simp (b, r, ne_eqb _ _ n)
+  field_bad c b r = simp (b, r)
 
-  module _ (b : beyond file at end ≡ false) (r : tag_refusal (tag_at file at) (length_at file at) depth ≡ 0) where
-    pub field_single : (tag_at file at ≡ group_tag → ⊥) → field_verdict inside file at end depth ≡ Accepted
+  module _ (b : beyond file at end ≡ false) (r : tag_refusal (tag_at file at) (length_at file at) depth ≡ Ok tt) where
+    pub field_single : (tag_at file at ≡ group_tag → ⊥) → field_verdict inside file at end depth ≡ accepted
     unfolding field_verdict
     field_single t = simp (b, r, ne_eqb _ _ t)
 
@@ -131,18 +160,18 @@ module _ (inside : Verdict) (file : List ℕ) (at end depth : ℕ) where
     field_group t = simp (b, r, eq-eqb _ _ t)
 
 -- "four deep at most", "a request, 8 setup bytes then data": what a tag that refuses nothing says
-pub group_depth : (size depth : ℕ) → tag_refusal group_tag size depth ≡ 0 → depth < 4
+pub group_depth : (size depth : ℕ) → tag_refusal group_tag size depth ≡ Ok tt → depth < 4
 unfolding tag_refusal
 group_depth size depth r =
     ⊎_elim
     (λ (h : depth < 4). h)
-    (λ (h : 4 ≤ depth). let z = simp (le-leb _ _ h) at r in absurd (omega arith))
+    (λ (h : 4 ≤ depth). let z = simp (le-leb _ _ h) at r in cc)
     (lt_or_ge depth 4)
 
-pub request_size_lem : (size depth : ℕ) → tag_refusal request_tag size depth ≡ 0 → 8 ≤ size
+pub request_size_lem : (size depth : ℕ) → tag_refusal request_tag size depth ≡ Ok tt → 8 ≤ size
 unfolding tag_refusal
 request_size_lem size depth r =
     ⊎_elim
-    (λ (h : size < 8). let z = simp (lt-ltb _ _ h) at r in absurd (omega arith))
+    (λ (h : size < 8). let z = simp (lt-ltb _ _ h) at r in cc)
     (λ (h : 8 ≤ size). h)
     (lt_or_ge size 8)

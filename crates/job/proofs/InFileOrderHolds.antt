@@ -1,13 +1,14 @@
 -- The statements of specs/InFileOrder.antt hold: by the laws of a list of fields, the first of them and then the rest.
 -- Assumes nothing.
+use Rattle.std.specs.Prelude.{Err}
 use mathlib.Core.Path.{◌≡◌, refl, sym, ap, ◌∙◌}
 use mathlib.Core.List.{List}
 use Prim.Native.Nat.{ℕ, suc, ◌+◌, ◌<◌}
 use lib.ListN.{length}
 use borrow.Author.Tests.{ne_eqb, le-ltb}
 use Rattle.words.specs.Words.{byte_at}
-use Rattle.job.specs.Field.{end_at, beyond, field_refusal}
-use Rattle.job.specs.Verdict.{Verdict, Accepted, Refused, and_then, field_verdict, fields_verdict, most_file, verdict}
+use Rattle.job.specs.Field.{end_at, beyond}
+use Rattle.job.specs.Verdict.{Verdict, accepted, refused, and_then, field_verdict, fields_verdict, most_file, verdict}
 use Rattle.job.specs.Requests.{requests_of}
 use Rattle.job.specs.InFileOrder.{VerdictInOrder, RequestsInOrder, WalkInOrder, InFileOrder}
 use Rattle.job.proofs.FieldLaws.{end_beyond}
@@ -29,10 +30,10 @@ module _ (n : ℕ) (file : List ℕ) (at end depth : ℕ) where
   unfolding field_verdict and_then
   verdict_in_order = record {
     no_field = λ h. sym (fields_none n file at end depth h);
-    bad = λ h r. from_field (Refused (field_refusal file at end depth) at) h (rw (ne_eqb (field_refusal file at end depth) 0 r));
-    bad_in_group = λ k p h r t q. from_field (Refused k p) h (rw (r, t, q));
-    behind_group = λ h r t q. from_field Accepted h (rw (r, t, q));
-    behind_other = λ h r t. from_field Accepted h (rw (r, ne_eqb (byte_at file at) 0x02 t));
+    bad = λ c h r. from_field (refused c at) h (rw r);
+    bad_in_group = λ k h r t q. from_field (Err k) h (rw (r, t, q));
+    behind_group = λ h r t q. from_field accepted h (rw (r, t, q));
+    behind_other = λ h r t. from_field accepted h (rw (r, ne_eqb (byte_at file at) 0x02 t));
   }
 
   requests_in_order : RequestsInOrder n file at end

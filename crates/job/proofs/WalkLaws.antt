@@ -1,5 +1,6 @@
 -- Laws of the walk: how it goes on from a field, and that from the start of an accepted job it meets the job's requests, in order.
 -- Assumes nothing.
+use Rattle.std.specs.Prelude.{Some, None}
 use mathlib.Core.Path.{◌≡◌, refl, sym, ap, ◌∙◌}
 use mathlib.Core.Logic.{⊎_elim}
 use mathlib.Core.Bool.{true, false}
@@ -9,9 +10,9 @@ use native.Mathlib.Omega.{arith}
 use lib.ListN.{length}
 use borrow.Author.Tests.{le-ltb}
 use Rattle.job.specs.Field.{head_size, tag_at, length_at, value_at, end_at, request_tag, group_tag, by_tag, beyond}
-use Rattle.job.specs.Verdict.{Accepted, fields_verdict, verdict}
+use Rattle.job.specs.Verdict.{accepted, fields_verdict, verdict}
 use Rattle.job.specs.Requests.{Span, span, requests_in, requests_of, HaveSetups}
-use Rattle.job.specs.Walk.{Request, NoMore, walk_in, walk, first_met, InOrder}
+use Rattle.job.specs.Walk.{walk_in, walk, first_met, met_start, met_size, InOrder}
 use Rattle.job.proofs.FieldLaws.{Inside, which, lt_or_ge, eq_or_ne, by_request, by_group, by_other, end_beyond}
 use Rattle.job.proofs.FieldLaws.{fits, not_beyond_later, field_group, request_size_lem}
 use Rattle.job.proofs.VerdictLaws.{good, fields_more, both_accepted, file_accepted}
@@ -63,11 +64,11 @@ module _ (file : List ℕ) (at : ℕ) (b : beyond file at (length file) ≡ fals
 -- ---- a turn of the loop that walks: it began at `from` and is at `at`, with the size of the field in a local
 
 module _ (file : List ℕ) (from at : ℕ) (w : walk file from ≡ walk file at) where
-  pub turn_none : beyond file at (length file) ≡ true → NoMore ≡ first_met (walk file from)
+  pub turn_none : beyond file at (length file) ≡ true → None ≡ first_met (walk file from)
   turn_none b = rw (w, walk_none file at b)
 
   module _ (size : ℕ) (i : Inside file at (length file) size) where
-    pub turn_request : tag_at file at ≡ request_tag → Request (value_at at) size ≡ first_met (walk file from)
+    pub turn_request : tag_at file at ≡ request_tag → Some (span (value_at at) size) ≡ first_met (walk file from)
     turn_request t = rw (w, walk_request file at i.not_beyond t, i.sized)
 
     pub turn_group : tag_at file at ≡ group_tag → walk file from ≡ walk file (value_at at)
@@ -91,14 +92,14 @@ from_earlier : (file : List ℕ) (at later start size : ℕ) → walk file at �
 from_earlier file at later start size e h s =
     record { met = e ∙ s.met; after = omega (arith, s.after); tagged = s.tagged; sized = s.sized; within = s.within }
 
-none_met : {A : Type 0} (file : List ℕ) (at start size : ℕ) → walk file at ≡ [] → first_met (walk file at) ≡ Request start size → A
-none_met file at start size e f = let g : NoMore ≡ Request start size = sym (ap first_met e) ∙ f in let z : ◌≡◌ {A = ℕ} 0 1 = cc in absurd (omega arith)
+none_met : {A : Type 0} (file : List ℕ) (at start size : ℕ) → walk file at ≡ [] → first_met (walk file at) ≡ Some (span start size) → A
+none_met file at start size e f = let g : None ≡ Some (span start size) = sym (ap first_met e) ∙ f in absurd (cc)
 
-request_met : (start size start' size' : ℕ) → Request start size ≡ Request start' size' → (start ≡ start') × (size ≡ size')
-request_met start size start' size' e = (cc, cc)
+request_met : (start size start' size' : ℕ) → Some (span start size) ≡ Some (span start' size') → (start ≡ start') × (size ≡ size')
+request_met start size start' size' e = (ap met_start e, ap met_size e)
 
 -- the first number bounds the bytes left
-steps_in : (n : ℕ) (file : List ℕ) (at start size : ℕ) → length file ≤ at + n → first_met (walk file at) ≡ Request start size → Steps file at start size
+steps_in : (n : ℕ) (file : List ℕ) (at start size : ℕ) → length file ≤ at + n → first_met (walk file at) ≡ Some (span start size) → Steps file at start size
 steps_in zero file at start size h f = none_met file at start size (walk_none file at (end_beyond file at (length file) (omega arith))) f
 steps_in (suc n) file at start size h f =
     ⊎_elim
@@ -128,12 +129,12 @@ steps_in (suc n) file at start size h f =
     (eq_or_ne (tag_at file at) request_tag))
     (which (beyond file at (length file)))
 
-pub steps : (file : List ℕ) (at start size : ℕ) → first_met (walk file at) ≡ Request start size → Steps file at start size
+pub steps : (file : List ℕ) (at start size : ℕ) → first_met (walk file at) ≡ Some (span start size) → Steps file at start size
 steps file at start size f = steps_in (length file) file at start size (omega arith) f
 
-pub no_more : (ss : List Span) → first_met ss ≡ NoMore → ss ≡ []
+pub no_more : (ss : List Span) → first_met ss ≡ None → ss ≡ []
 no_more [] e = refl
-no_more (s ∷ ss) e = let z : ◌≡◌ {A = ℕ} 0 1 = cc in absurd (omega arith)
+no_more (s ∷ ss) e = absurd (cc)
 
 -- ---- the requests of an accepted job
 
@@ -151,7 +152,7 @@ meets_none n file at end h k =
     let e : at ≡ end = omega arith in
     rw (none_beyond n file at end (end_beyond file at end k)) (record { in_order = rw e; have_setups = tt })
 
-meets : (n : ℕ) (file : List ℕ) (at end depth : ℕ) → at ≤ end → end ≤ at + n → end ≤ length file → fields_verdict n file at end depth ≡ Accepted
+meets : (n : ℕ) (file : List ℕ) (at end depth : ℕ) → at ≤ end → end ≤ at + n → end ≤ length file → fields_verdict n file at end depth ≡ accepted
     → Meets file at end (requests_in n file at end)
 meets zero file at end depth h k l g = meets_none zero file at end h (omega arith)
 meets (suc n) file at end depth h k l g =
@@ -190,7 +191,7 @@ meets (suc n) file at end depth h k l g =
     (lt_or_ge at end)
 
 -- the same of a whole job
-pub walk_job : (file : List ℕ) → verdict file ≡ Accepted → (walk file 0 ≡ requests_of file) × HaveSetups (requests_of file)
+pub walk_job : (file : List ℕ) → verdict file ≡ accepted → (walk file 0 ≡ requests_of file) × HaveSetups (requests_of file)
 unfolding requests_of
 walk_job file g =
     let a = file_accepted file g in

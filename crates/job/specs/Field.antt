@@ -1,7 +1,9 @@
 -- The paper's "fields of one-byte tag, two-byte length (high first), value". A place is an offset from the start of the file.
 -- Assumes nothing: these are definitions.
-use Rattle.std.specs.Prelude.{if◌then◌else◌, Bool, not, ◌&&◌, ◌||◌, List, [], ◌∷◌, ℕ, ◌+◌, eqb, leb, ltb}
+use Rattle.std.specs.Prelude.{if◌then◌else◌, Bool, not, ◌&&◌, ◌||◌, List, [], ◌∷◌, ℕ, ◌+◌, eqb, leb, ltb, Result, Ok, Err}
 use Rattle.words.specs.Words.{among, byte_at, high_first}
+pub use Rattle.job.specs.declared.refusal.Cause.{Cause}
+pub use Rattle.job.specs.declared.refusal.Cause.TheVariants.{Beyond, Unlisted, TooDeep, ShortRequest, LongNote, TooLong}
 
 -- "one-byte tag, two-byte length (high first)": the three bytes before a value
 abbrev pub head_size : ℕ
@@ -48,15 +50,29 @@ most_depth = 4
 abbrev pub beyond : List ℕ → ℕ → ℕ → Bool
 beyond file at end = ltb end (value_at at) || ltb end (end_at file at)
 
--- what the tag refuses of a value of a size, inside `depth` groups: "causes tried as numbered", and 0 where there is none
-unfoldable pub tag_refusal : ℕ → ℕ → ℕ → ℕ
-tag_refusal tag size depth =
-    if not (among tag (request_tag ∷ group_tag ∷ note_tag ∷ [])) then 12 else
-    if eqb tag group_tag && leb most_depth depth then 13 else
-    if eqb tag request_tag && ltb size setup_size then 14 else
-    if eqb tag note_tag && ltb most_note size then 15 else 0
+-- the number that the paper gives each cause
+abbrev pub cause_number : Cause → ℕ
+cause_number Beyond = 11
+cause_number Unlisted = 12
+cause_number TooDeep = 13
+cause_number ShortRequest = 14
+cause_number LongNote = 15
+cause_number TooLong = 16
 
--- a field's refusal, and 0 where it has none
-abbrev pub field_refusal : List ℕ → ℕ → ℕ → ℕ → ℕ
+-- what the tag refuses of a value of a size, inside `depth` groups: "causes tried as numbered"
+unfoldable pub tag_refusal : ℕ → ℕ → ℕ → Result (Unit {0}) Cause
+tag_refusal tag size depth =
+    if not (among tag (request_tag ∷ group_tag ∷ note_tag ∷ [])) then Err Unlisted else
+    if eqb tag group_tag && leb most_depth depth then Err TooDeep else
+    if eqb tag request_tag && ltb size setup_size then Err ShortRequest else
+    if eqb tag note_tag && ltb most_note size then Err LongNote else Ok tt
+
+-- what is refused of a field itself, and not of one that it holds
+abbrev pub field_refusal : List ℕ → ℕ → ℕ → ℕ → Result (Unit {0}) Cause
 field_refusal file at end depth =
-    if beyond file at end then 11 else tag_refusal (tag_at file at) (length_at file at) depth
+    if beyond file at end then Err Beyond else tag_refusal (tag_at file at) (length_at file at) depth
+
+-- the number of the cause, and 0 where nothing is refused
+abbrev pub refusal_number : Result (Unit {0}) Cause → ℕ
+refusal_number (Ok u) = 0
+refusal_number (Err c) = cause_number c

@@ -1,11 +1,11 @@
 -- "At the first bad field in file order" and "through all its groups", of every place at every depth, in numbers. Proved in
 -- proofs/InFileOrderHolds.antt.
-use Rattle.std.specs.Prelude.{◌≡◌, List, [], ◌∷◌, ◌++◌, ℕ, suc, ◌+◌, ◌≤◌, ◌<◌, length}
+use Rattle.std.specs.Prelude.{◌≡◌, List, [], ◌∷◌, ◌++◌, ℕ, suc, ◌+◌, ◌≤◌, ◌<◌, length, Some, None, Ok, Err}
 use Rattle.words.specs.Words.{byte_at, high_first}
-use Rattle.job.specs.Field.{field_refusal}
-use Rattle.job.specs.Verdict.{Accepted, Refused, fields_verdict, most_file, verdict}
+use Rattle.job.specs.Field.{Cause, field_refusal}
+use Rattle.job.specs.Verdict.{Refusal, accepted, refused, fields_verdict, most_file, verdict}
 use Rattle.job.specs.Requests.{Span, span, requests_in, requests_of}
-use Rattle.job.specs.Walk.{Request, NoMore, walk, first_met}
+use Rattle.job.specs.Walk.{walk, first_met}
 use Rattle.job.specs.Causes.{Whole}
 
 -- where the value of the field at a place ends: behind "one-byte tag, two-byte length (high first)" and as many bytes as its length says
@@ -14,17 +14,17 @@ field_end file at = at + 3 + high_first file (at + 1)
 
 -- the verdict on the fields from a place up to `end`, which `depth` groups enclose
 pub record VerdictInOrder (n : ℕ) (file : List ℕ) (at end depth : ℕ) : Type 0 where
-  pub no_field : end ≤ at → fields_verdict n file at end depth ≡ Accepted
+  pub no_field : end ≤ at → fields_verdict n file at end depth ≡ accepted
   -- the first field is bad: its own refusal, at its tag
-  pub bad : at < end → (field_refusal file at end depth ≡ 0 → ⊥) → fields_verdict (suc n) file at end depth ≡ Refused (field_refusal file at end depth) at
+  pub bad : (c : Cause) → at < end → field_refusal file at end depth ≡ Err c → fields_verdict (suc n) file at end depth ≡ refused c at
   -- it is a group: what it holds is enclosed by one group more, and comes before what stands behind it
-  pub bad_in_group : (k p : ℕ) → at < end → field_refusal file at end depth ≡ 0 → byte_at file at ≡ 0x02
-      → fields_verdict n file (at + 3) (field_end file at) (depth + 1) ≡ Refused k p → fields_verdict (suc n) file at end depth ≡ Refused k p
-  pub behind_group : at < end → field_refusal file at end depth ≡ 0 → byte_at file at ≡ 0x02
-      → fields_verdict n file (at + 3) (field_end file at) (depth + 1) ≡ Accepted
+  pub bad_in_group : (r : Refusal) → at < end → field_refusal file at end depth ≡ Ok tt → byte_at file at ≡ 0x02
+      → fields_verdict n file (at + 3) (field_end file at) (depth + 1) ≡ Err r → fields_verdict (suc n) file at end depth ≡ Err r
+  pub behind_group : at < end → field_refusal file at end depth ≡ Ok tt → byte_at file at ≡ 0x02
+      → fields_verdict n file (at + 3) (field_end file at) (depth + 1) ≡ accepted
       → fields_verdict (suc n) file at end depth ≡ fields_verdict n file (field_end file at) end depth
   -- it is a request or a note
-  pub behind_other : at < end → field_refusal file at end depth ≡ 0 → (byte_at file at ≡ 0x02 → ⊥)
+  pub behind_other : at < end → field_refusal file at end depth ≡ Ok tt → (byte_at file at ≡ 0x02 → ⊥)
       → fields_verdict (suc n) file at end depth ≡ fields_verdict n file (field_end file at) end depth
 
 -- the requests of the fields from a place up to `end`
@@ -58,5 +58,5 @@ pub record InFileOrder : Type 0 where
   pub walks : (file : List ℕ) (at : ℕ) → WalkInOrder file at
   pub of_span : (start size : ℕ) → ((span start size).start ≡ start) × ((span start size).size ≡ size)
   -- of all that is met the first is told
-  pub first_met_lem : (start size : ℕ) (ss : List Span) → first_met (span start size ∷ ss) ≡ Request start size
-  pub none_met : first_met [] ≡ NoMore
+  pub first_met_lem : (start size : ℕ) (ss : List Span) → first_met (span start size ∷ ss) ≡ Some (span start size)
+  pub none_met : first_met [] ≡ None

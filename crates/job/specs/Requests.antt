@@ -2,12 +2,9 @@
 use Rattle.std.specs.Prelude.{if◌then◌else◌, List, [], ◌∷◌, ◌++◌, ◌≡◌, ℕ, zero, suc, ◌+◌, ◌≤◌, ltb, length, take, drop}
 use Rattle.job.specs.Field.{tag_at, length_at, value_at, end_at, setup_size, by_tag, beyond}
 use Rattle.job.specs.Verdict.{most_file}
+pub use Rattle.job.specs.declared.walk.Span.{Span}
 
 -- where a request's value lies in the file
-pub record Span : Type 0 where
-  pub start : ℕ
-  pub size : ℕ
-
 abbrev pub span : ℕ → ℕ → Span
 span start size = record { start = start; size = size }
 

@@ -3,7 +3,7 @@ ghost use Rattle.std.specs.Prelude.{◌≡◌, ◌-◌, ◌≤◌, length};
 ghost use Rattle.job.specs.Requests.{request_count};
 ghost use Rattle.job.specs.Read.{Counts};
 
-use crate::field::{GROUP, HEAD_SIZE, REQUEST, Reach, reach_of};
+use crate::field::{GROUP, HEAD_SIZE, REQUEST, reach_of};
 use crate::verdict::MOST_FILE;
 
 // The requests of the fields from a place up to `end`: those of the first field, and those of the rest.
@@ -12,7 +12,7 @@ fn count_fields(file: &[u8], at: usize, end: usize) -> usize
     ensures counts { Counts result file.now at end }
     ensures upper_bound { result ≤ end - at }
 {
-    let Reach::Within(size) = reach_of(file, at, end) else {
+    let Some(size) = reach_of(file, at, end) else {
         return 0;
     };
     let value = at + HEAD_SIZE;

@@ -5,9 +5,11 @@
 
 mod count;
 mod field;
+mod refusal;
 mod verdict;
 mod walk;
 
 pub use count::count_requests;
-pub use verdict::{Verdict, check_job};
-pub use walk::{Met, next_request};
+pub use refusal::{Cause, Refusal};
+pub use verdict::check_job;
+pub use walk::{Span, next_request};

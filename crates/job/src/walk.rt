@@ -2,34 +2,28 @@
 ghost use Rattle.std.specs.Prelude.{◌≡◌};
 ghost use Rattle.job.specs.Walk.{walk, first_met};
 
-use crate::field::{GROUP, HEAD_SIZE, REQUEST, Reach, reach_of};
+use crate::field::{GROUP, HEAD_SIZE, REQUEST, reach_of};
 
-// Where the value of the request that was met begins, and its size; or no more requests. The next walk starts behind the value.
-#[derive(Clone, Copy)]
-pub enum Met {
-    Request(usize, usize),
-    NoMore,
+// Where a request's value begins, and its size.
+#[derive(Clone, Copy, Debug, PartialEq, Eq)]
+pub struct Span {
+    pub start: usize,
+    pub size: usize,
 }
 
-// The first request that the walk meets from a place on.
-pub fn next_request(file: &[u8], from: usize) -> Met
+// The first request that the walk meets from a place on, or none where it meets no more. The next walk starts behind the value.
+pub fn next_request(file: &[u8], from: usize) -> Option<Span>
     ensures { result ≡ first_met (walk file.now from) }
 {
     let mut at = from;
     while at < file.len() {
-        let Reach::Within(size) = reach_of(file, at, file.len()) else {
-            return Met::NoMore;
-        };
+        let size = reach_of(file, at, file.len())?;
         let tag = file[at];
-        let value = at + HEAD_SIZE;
+        let start = at + HEAD_SIZE;
         if tag == REQUEST {
-            return Met::Request(value, size);
+            return Some(Span { start, size });
         }
-        if tag == GROUP {
-            at = value;
-        } else {
-            at = value + size;
-        }
+        at = if tag == GROUP { start } else { start + size };
     }
-    Met::NoMore
+    None
 }

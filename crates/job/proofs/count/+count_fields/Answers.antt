@@ -13,20 +13,20 @@ pub returns-in_default-clause-counts : goal.returns-in_default-clause-counts
 returns-in_default-clause-counts t c = count_beyond _ _ _ (went_beyond _ _ _ _ c.reach_of.ensures c.in_default.is)
 
 pub overflow_add-next : goal.overflow_add-next
-overflow_add-next t c = let i = within _ _ _ _ _ c.reach_of.ensures c.in-Within.is in omega (arith, i.value_fits)
+overflow_add-next t c = let i = within _ _ _ _ _ c.reach_of.ensures c.in-Some.is in omega (arith, i.value_fits)
 
 pub bounds-file-at : goal.bounds-file-at
-bounds-file-at t c = let i = within _ _ _ _ _ c.reach_of.ensures c.in-Within.is in omega (arith, i.head_fits)
+bounds-file-at t c = let i = within _ _ _ _ _ c.reach_of.ensures c.in-Some.is in omega (arith, i.head_fits)
 
 pub count_fields-held-requires : goal.count_fields-held-requires
 count_fields-held-requires t c =
-    let i = within _ _ _ _ _ c.reach_of.ensures c.in-Within.is in
+    let i = within _ _ _ _ _ c.reach_of.ensures c.in-Some.is in
     (omega (arith, i.value_fits), (omega arith, omega (arith, i.value_fits)))
 
 -- the field is counted, by each way
 field_counted : (t : ℕ) (c : goal.Then-next-end t) → Holds c.match-tag.held c.args.file.now c.args.at
 field_counted t c =
-    let i = within _ _ _ _ _ c.reach_of.ensures c.in-Within.is in
+    let i = within _ _ _ _ _ c.reach_of.ensures c.in-Some.is in
     elim c.match-tag.branch [
       | in-1 w ↦ rw w.held-is (holds_request c.args.file.now c.args.at w.in-1.is)
       | in-2 w ↦ rw w.held-is (holds_group c.args.file.now c.args.at _ _ i.sized w.in-2.is w.count_fields-held.ensures.counts)
@@ -38,17 +38,17 @@ field_counted t c =
 
 pub returns-then-next-end-clause-counts : goal.returns-then-next-end-clause-counts
 returns-then-next-end-clause-counts t c =
-    let i = within _ _ _ _ _ c.reach_of.ensures c.in-Within.is in
+    let i = within _ _ _ _ _ c.reach_of.ensures c.in-Some.is in
     count_last _ _ _ _ i _ (field_counted t c) c.if-next-end.true
 
 pub count_fields-requires : goal.count_fields-requires
 count_fields-requires t c =
-    let i = within _ _ _ _ _ c.reach_of.ensures c.in-Within.is in
+    let i = within _ _ _ _ _ c.reach_of.ensures c.in-Some.is in
     (omega (arith, i.value_fits), (omega (arith, i.value_fits), omega arith))
 
 pub returns-clause-counts : goal.returns-clause-counts
 returns-clause-counts t c =
-    let i = within _ _ _ _ _ c.reach_of.ensures c.in-Within.is in
+    let i = within _ _ _ _ _ c.reach_of.ensures c.in-Some.is in
     let h : Holds c.match-tag.held c.args.file.now c.args.at =
     elim c.match-tag.branch [
       | in-1 w ↦ rw w.held-is (holds_request c.args.file.now c.args.at w.in-1.is)
@@ -62,7 +62,7 @@ returns-clause-counts t c =
 
 pub returns-clause-upper_bound : goal.returns-clause-upper_bound
 returns-clause-upper_bound t c =
-    let i = within _ _ _ _ _ c.reach_of.ensures c.in-Within.is in
+    let i = within _ _ _ _ _ c.reach_of.ensures c.in-Some.is in
     let rest = c.count_fields.ensures.upper_bound in
     elim c.match-tag.branch [
       | in-1 w ↦ omega (arith, i.value_fits, rest)

@@ -1,15 +1,13 @@
 -- `job::field::reach_of` meets its contract: each test is one of `beyond`.
 -- Assumes nothing.
-use Rattle.std.proofs.Common.{arith}
-use Rattle.job.proofs.FieldLaws.{length_at_bytes, reach_short, reach_beyond, reach_within}
+use Rattle.std.proofs.Common.{◌∙◌, arith}
+use Rattle.job.proofs.FieldLaws.{length_at_bytes, reach_short, reach_whole}
 use Rattle.job.proofs.field.reach_of.Goals as goal
 
-pub returns-then-left-lt-HEAD_SIZE : goal.returns-then-left-lt-HEAD_SIZE
-returns-then-left-lt-HEAD_SIZE c = reach_short _ _ _ (omega arith)
-
-pub returns-then-left-size : goal.returns-then-left-size
-returns-then-left-size c =
-    reach_beyond _ _ _ (omega arith) (omega (arith, length_at_bytes c.args.file.now c.args.at))
+pub returns-in_err-left : goal.returns-in_err-left
+returns-in_err-left c = c.from_residual.ensures ∙ reach_short _ _ _ (omega (arith, c.in_err-left.ensures))
 
 pub returns : goal.returns
-returns c = reach_within _ _ _ _ (omega (arith, length_at_bytes c.args.file.now c.args.at)) (omega arith)
+returns c =
+    c.then_some.ensures
+    ∙ reach_whole c.args.file.now c.args.at c.args.end _ _ (omega (arith, c.in_ok-left.ensures)) (omega (arith, length_at_bytes c.args.file.now c.args.at))

@@ -7,7 +7,7 @@ use Rattle.job.proofs.verdict.check_job.Goals as goal
 
 pub returns-then-file-gt-MOST_FILE : goal.returns-then-file-gt-MOST_FILE
 unfolding verdict
-returns-then-file-gt-MOST_FILE c = simp (lt-ltb _ _ c.if-file-gt-MOST_FILE.true)
+returns-then-file-gt-MOST_FILE c = simp (lt-ltb _ _ c.if-file-gt-MOST_FILE.true, c.at.ensures)
 
 pub returns : goal.returns
 unfolding verdict
