@@ -18,7 +18,6 @@ ghost use Rattle.rules.specs.Step.{ask};
 ghost use Rattle.numbers.specs.Layout.{pack_session, pack_config, command_of};
 ghost use Rattle.exports.specs.Exported.{StepTold, numbered, command_told, body_told, suffix_told};
 
-use job::Verdict;
 pub use records::{serial_delivered, serial_read_record, serial_step, serial_write_record};
 use sessionnumbers::{number_after, pack_outcome, pack_session, session_of};
 
@@ -127,13 +126,13 @@ pub extern "C" fn loader_check_job(file: &[u8], at: &mut usize) -> u8
     ensures at_after { at.new ≡ verdict_place (verdict file.now) }
 {
     match job::check_job(file) {
-        Verdict::Accepted => {
+        Ok(()) => {
             *at = 0;
             0
         }
-        Verdict::Refused(number, place) => {
-            *at = place;
-            number
+        Err(refusal) => {
+            *at = refusal.at;
+            refusal.cause.number()
         }
     }
 }

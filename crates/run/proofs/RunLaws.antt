@@ -1,20 +1,23 @@
 -- Laws of a run: one request and its line, and what is so far after some of them.
 -- Assumes nothing.
+use Rattle.std.specs.Prelude.{Some, None, Err}
 use mathlib.Core.Path.{◌≡◌, refl, sym, ap, subst, ◌∙◌}
 use mathlib.Core.List.{List, [], ◌∷◌, ◌++◌, append_assoc, append-nil}
 use Prim.Native.Nat.{ℕ, suc, ◌+◌, ◌-◌, ◌*◌, ◌≤◌, ◌<◌}
 use native.Mathlib.Omega.{arith}
-use lib.ListN.{length, take, drop, replicate, length-drop}
-use lib.Seq.{length-take-le, take-take, take-add, drop-drop, drop_at}
+use lib.ListN.{length, take, drop, replicate}
+use lib.Seq.{length-take-le}
+use Rattle.std.proofs.lemmas.List.{take_rest}
 use Rattle.words.specs.Words.{laid}
 use Rattle.config.specs.Config.{delivered_config}
 use Rattle.memory.specs.Memory.{eeprom_size, blank_flash}
 use Rattle.job.specs.Field.{setup_size}
-use Rattle.job.specs.Verdict.{most_file, verdict}
-use Rattle.job.specs.declared.verdict.Verdict.TheVariants.{Accepted, Refused}
-use Rattle.job.specs.Requests.{Span, span, HaveSetups, requests_of, request_count, setup_of, data_of}
+use Rattle.job.specs.Field.{cause_number}
+use Rattle.job.specs.declared.refusal.Refusal.{Refusal}
+use Rattle.job.specs.declared.walk.Span.{Span}
+use Rattle.job.specs.Verdict.{most_file, verdict, accepted}
+use Rattle.job.specs.Requests.{ HaveSetups, requests_of, request_count}
 use Rattle.job.specs.Walk.{walk, first_met}
-use Rattle.job.specs.declared.walk.Met.TheVariants.{Request, NoMore}
 use Rattle.job.proofs.VerdictLaws.{file_accepted}
 use Rattle.job.proofs.WalkLaws.{steps, no_more, walk_job}
 use Rattle.lines.specs.Line.{request_line, job_line, refused_line, most_line, most_job_line}
@@ -35,26 +38,13 @@ use Rattle.run.specs.declared.run.Progress.{Progress}
 -- ---- one request
 
 -- the parts of the file that the code lends are the request's setup and data
-module _ (file : List ℕ) (start size : ℕ) (p : Placed file start size) where
-  setup_part : take (start + 8 - start) (drop start file) ≡ setup_of file (span start size)
-  setup_part =
-      let e : start + 8 - start ≡ 8 = omega arith in
-      rw e (sym (take-take 8 size (drop start file) p.has_setup))
-
-  data_part : take (start + size - (start + 8)) (drop (start + 8) file) ≡ data_of file (span start size)
-  data_part =
-      let e : start + size - (start + 8) ≡ size - 8 = omega arith in
-      let f : 8 + (size - 8) ≡ size = omega (arith, p.has_setup) in
-      let l : length (take 8 (drop start file)) ≡ 8 = length-take-le 8 (drop start file)
-      (rw (length-drop start file) (omega (arith, p.in_file, p.has_setup))) in
-      let t : take size (drop start file) ≡ take 8 (drop start file) ++ take (size - 8) (drop (start + 8) file)
-      = ap (λ k. take k (drop start file)) (sym f) ∙ take-add 8 (size - 8) (drop start file) ∙ rw (drop-drop 8 start file) in
-      rw e (sym (ap (drop 8) t ∙ drop_at (take 8 (drop start file)) _ 8 l))
-
-  pub stepped_asked : (b : Board) (n : ℕ) (a : Answer) (f e reply reply₀ : List ℕ) → n ≡ reply_size
-      → Stepped b (ask b (take (start + 8 - start) (drop start file)) (take (start + size - (start + 8)) (drop (start + 8) file)) n) a f e reply reply₀
-      → Stepped b (asked file (span start size) b) a f e reply reply₀
-  stepped_asked b n a f e reply reply₀ h s = rw (setup_part, data_part, h) at s
+pub stepped_asked : (file : List ℕ) (s : Span) (b : Board) (n : ℕ) (a : Answer) (f e reply reply₀ : List ℕ) → n ≡ reply_size
+    → let value = take (s.start + s.size - s.start) (drop s.start file) in
+    Stepped b (ask b (take 8 value) (take (length value - 8) (drop 8 value)) n) a f e reply reply₀
+    → Stepped b (asked file s b) a f e reply reply₀
+stepped_asked file s b n a f e reply reply₀ h t =
+    let size : s.start + s.size - s.start ≡ s.size = omega arith in
+    rw (take_rest (take (s.start + s.size - s.start) (drop s.start file)) 8, size, h) at t
 
 -- a request's line fits
 pub line_stands : (number place end : ℕ) (a : Answer) (w : Word) (reply room₀ room : List ℕ) (q : _)
@@ -105,38 +95,38 @@ at_start file f e reply room place p r s c n q = record {
 module _ (file f₀ e₀ room₀ : List ℕ) (place : ℕ) (f e reply room : List ℕ) (p : Progress) (cursor : ℕ)
     (s : SoFar file f₀ e₀ room₀ place f e reply room p cursor) where
   -- the walk meets a request
-  module _ (start size : ℕ) (m : first_met (walk file cursor) ≡ Request start size) where
-    met_setup : setup_size ≤ size
-    met_setup = (rw (steps file cursor start size m).met at s.setups).0
+  module _ (n : Span) (m : first_met (walk file cursor) ≡ Some n) where
+    met_setup : setup_size ≤ n.size
+    met_setup = (rw (steps file cursor n.start n.size m).met at s.setups).0
 
-    pub placed : Placed file start size
-    placed = record { in_file = (steps file cursor start size m).within; has_setup = met_setup }
+    pub placed : Placed file n
+    placed = record { in_file = (steps file cursor n.start n.size m).within; has_setup = met_setup }
 
     pub room_left : p.place + most_line ≤ length room
-    room_left = let t = steps file cursor start size m in omega (arith, met_setup, t.after, t.within, s.lines_fit)
+    room_left = let t = steps file cursor n.start n.size m in omega (arith, met_setup, t.after, t.within, s.lines_fit)
 
     pub number_left : p.number ≤ most_file
-    number_left = let t = steps file cursor start size m in omega (arith, t.after, t.within, s.number_small, s.file_size)
+    number_left = let t = steps file cursor n.start n.size m in omega (arith, t.after, t.within, s.number_small, s.file_size)
 
-    pub less_left : length file - (start + size) < length file - cursor
-    less_left = let t = steps file cursor start size m in omega (arith, t.after, t.within)
+    pub less_left : length file - (n.start + n.size) < length file - cursor
+    less_left = let t = steps file cursor n.start n.size m in omega (arith, t.after, t.within)
 
     pub further : (f' e' reply' room' : List ℕ) (q : Progress) → length reply' ≡ length reply
-        → Ran p (board_at p f e) (asked file (span start size) (board_at p f e)) q f' e' room room'
-        → SoFar file f₀ e₀ room₀ place f' e' reply' room' q (start + size)
+        → Ran p (board_at p f e) (asked file n (board_at p f e)) q f' e' room room'
+        → SoFar file f₀ e₀ room₀ place f' e' reply' room' q (n.start + n.size)
     further f' e' reply' room' q l r =
-        let t = steps file cursor start size m in
+        let t = steps file cursor n.start n.size m in
         let b : Board = board_at p f e in
-        let o : Result = asked file (span start size) b in
+        let o : Result = asked file n b in
         let line : List ℕ = result_line p.number o in
-        let ss : List Span = walk file (start + size) in
+        let ss : List Span = walk file (n.start + n.size) in
         let rest : lines file (board_at q f' e') q.number ss ≡ lines file (next b o) (suc p.number) ss
-        = ap (λ (x : Board). lines file x q.number ss) r.board_after ∙ ap (λ (n : ℕ). lines file (next b o) n ss) r.number_after_lem in
+        = ap (λ (x : Board). lines file x q.number ss) r.board_after ∙ ap (λ (k : ℕ). lines file (next b o) k ss) r.number_after_lem in
         record {
           written = s.written ++ line;
           whole = append_assoc s.written line (lines file (board_at q f' e') q.number ss)
               ∙ ap (λ (x : List ℕ). s.written ++ (line ++ x)) rest
-              ∙ ap (λ (x : List ℕ). s.written ++ x) (sym (ap (lines file b p.number) t.met ∙ lines_first file b p.number (span start size) ss))
+              ∙ ap (λ (x : List ℕ). s.written ++ x) (sym (ap (lines file b p.number) t.met ∙ lines_first file b p.number n ss))
               ∙ s.whole;
           stands = joined s.stands r.line;
           setups = (rw t.met at s.setups).1;
@@ -147,7 +137,7 @@ module _ (file f₀ e₀ room₀ : List ℕ) (place : ℕ) (f e reply room : Lis
         }
 
   -- the walk meets no more
-  pub finished : first_met (walk file cursor) ≡ NoMore → Stands place (lines file (board idle delivered_config f₀ e₀) 1 (walk file 0)) room₀ p.place room
+  pub finished : first_met (walk file cursor) ≡ None → Stands place (lines file (board idle delivered_config f₀ e₀) 1 (walk file 0)) room₀ p.place room
   unfolding lines
   finished m =
       let n : walk file cursor ≡ [] = no_more (walk file cursor) m in
@@ -165,7 +155,7 @@ front_stands end most text room₀ room q h k m l d =
     let t = put_stands 0 end text room₀ room q (omega (arith, h, k, m)) l.0 l.1 d in
     (t, omega (arith, h, t.ends))
 
-module _ (file : List ℕ) (g : verdict file ≡ Accepted) where
+module _ (file : List ℕ) (g : verdict file ≡ accepted) where
   pub ready : (reply room : List ℕ) (place : ℕ) → length reply ≡ reply_size → most_output ≤ length room → place ≤ most_job_line → Ready file reply room place
   ready reply room place r m h =
       let w = walk_job file g in
@@ -196,7 +186,8 @@ module _ (file : List ℕ) (g : verdict file ≡ Accepted) where
   unfolding bench
   accepted_stands end room₀ room s = rw g s
 
-pub refused_stands : (file : List ℕ) (k p end : ℕ) (room₀ room : List ℕ) → verdict file ≡ Refused k p → Stands 0 (refused_line k p) room₀ end room
+pub refused_stands : (file : List ℕ) (r : Refusal) (end : ℕ) (room₀ room : List ℕ) → verdict file ≡ Err r
+    → Stands 0 (refused_line (cause_number r.cause) r.at) room₀ end room
     → Stands 0 (bench file) room₀ end room
 unfolding bench
-refused_stands file k p end room₀ room g s = rw g s
+refused_stands file r end room₀ room g s = rw g s

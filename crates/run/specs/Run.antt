@@ -2,6 +2,7 @@
 use Rattle.std.specs.Prelude.{◌≡◌, List, ℕ, suc, ◌+◌, ◌*◌, ◌≤◌, length, take}
 use Rattle.job.specs.Field.{head_size, setup_size}
 use Rattle.job.specs.Verdict.{most_file}
+use Rattle.job.specs.declared.walk.Span.{Span}
 use Rattle.job.specs.Requests.{HaveSetups}
 use Rattle.job.specs.Walk.{walk}
 use Rattle.lines.specs.Line.{request_line, most_line, most_job_line}
@@ -29,9 +30,9 @@ abbrev pub RoomSaid : Type 0
 RoomSaid = most_output ≡ 25 + 2139 * 1490
 
 -- a request's value lies in the file and has its setup
-pub record Placed (file : List ℕ) (start size : ℕ) : Type 0 where
-  pub in_file : start + size ≤ length file
-  pub has_setup : setup_size ≤ size
+pub record Placed (file : List ℕ) (s : Span) : Type 0 where
+  pub in_file : s.start + s.size ≤ length file
+  pub has_setup : setup_size ≤ s.size
 
 -- the line of an answer whose reply stands at the start of the buffer
 abbrev pub answer_line : ℕ → Answer → List ℕ → List ℕ

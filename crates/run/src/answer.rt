@@ -2,15 +2,14 @@
 ghost use Rattle.std.specs.Prelude.{◌≡◌, ◌≤◌, length, replicate};
 ghost use Rattle.words.specs.Words.{overlay};
 ghost use Rattle.memory.specs.Memory.{eeprom_size, blank_flash};
-ghost use Rattle.job.specs.Verdict.{verdict};
-ghost use Rattle.job.specs.declared.verdict.Verdict.TheVariants.{Accepted};
+ghost use Rattle.job.specs.Verdict.{verdict, accepted};
 ghost use Rattle.rules.specs.Refusals.{reply_size};
 ghost use Rattle.lines.specs.Room.{Stands};
 ghost use Rattle.run.specs.Bench.{written_for, bench};
 ghost use Rattle.run.specs.Run.{most_output};
 
 use crate::run::run_all;
-use job::{Verdict, check_job, count_requests};
+use job::{check_job, count_requests};
 use lines::end_of;
 use memory::{EEPROM_SIZE, FLASH_SIZE};
 use printing::{job_line, refused_line};
@@ -41,9 +40,9 @@ fn reply_buffer() -> [u8; REPLY_SIZE]
 
 // States the count, and runs the job on "a delivered board, all memory FFh".
 fn run_accepted(file: &[u8], room: &mut [u8]) -> usize
-    requires file_value { verdict file.now ≡ Accepted }
+    requires file_value { verdict file.now ≡ accepted }
     requires most_output_in_bounds { most_output ≤ length room.old }
-    ensures { Stands 0 (written_for file.now Accepted) room.old result room.new }
+    ensures { Stands 0 (written_for file.now accepted) room.old result room.new }
 {
     let place = end_of(job_line(count_requests(file), room, 0));
     let mut flash = blank_flash();
@@ -58,8 +57,8 @@ fn write_whole(file: &[u8], room: &mut [u8]) -> usize
     ensures { Stands 0 (bench file.now) room.old result room.new }
 {
     match check_job(file) {
-        Verdict::Accepted => run_accepted(file, room),
-        Verdict::Refused(number, place) => end_of(refused_line(number, place, room, 0)),
+        Ok(()) => run_accepted(file, room),
+        Err(refusal) => end_of(refused_line(refusal.cause.number(), refusal.at, room, 0)),
     }
 }
 

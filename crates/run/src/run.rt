@@ -2,7 +2,6 @@
 ghost use Rattle.std.specs.Prelude.{◌≡◌, ◌+◌, ◌≤◌, length};
 ghost use Rattle.config.specs.Config.{delivered_config};
 ghost use Rattle.job.specs.Verdict.{most_file};
-ghost use Rattle.job.specs.Requests.{span};
 ghost use Rattle.job.specs.Walk.{walk};
 ghost use Rattle.lines.specs.Line.{most_line};
 ghost use Rattle.lines.specs.Room.{Stands};
@@ -14,7 +13,7 @@ ghost use Rattle.run.specs.Bench.{word_of, asked, lines};
 ghost use Rattle.run.specs.Run.{Placed, answer_line, board_at, Ran, Ready};
 
 use config::{Config, delivered};
-use job::{Met, next_request};
+use job::{Span, next_request};
 use lines::{Word, end_of};
 use loader::step;
 use printing::request_line;
@@ -32,6 +31,8 @@ pub struct Progress {
     pub place: usize,
 }
 
+// Stays: neither type is of this crate, so that a From would have to stand in lines, which knows no outcomes, or in rules, which prints
+// nothing.
 fn word_of(outcome: Outcome) -> Word
     ensures { result ≡ word_of outcome }
 {
@@ -46,27 +47,24 @@ fn word_of(outcome: Outcome) -> Word
 // Asks the board the request whose value lies there.
 fn ask_board(
     file: &[u8],
-    start: usize,
-    size: usize,
-    session: Session,
-    config: Config,
+    span: Span,
+    progress: Progress,
     flash: &mut [u8],
     eeprom: &mut [u8],
     reply: &mut [u8],
 ) -> Answer
-    requires placed { Placed file.now start size }
+    requires placed { Placed file.now span }
     requires reply_len { length reply.old ≡ reply_size }
-    ensures { let b = board session config flash.old eeprom.old in
-        Stepped b (asked file.now (span start size) b) result
+    ensures { let b = board_at progress flash.old eeprom.old in
+        Stepped b (asked file.now span b) result
         flash.new eeprom.new reply.new reply.old }
 {
-    let sent = start + SETUP_SIZE;
-    let end = start + size;
+    let value = &file[span.start..span.start + span.size];
     step(
-        session,
-        config,
-        &file[start..sent],
-        &file[sent..end],
+        progress.session,
+        progress.config,
+        &value[..SETUP_SIZE],
+        &value[SETUP_SIZE..],
         flash,
         eeprom,
         reply,
@@ -80,16 +78,14 @@ fn write_line(number: usize, answer: Answer, reply: &[u8], room: &mut [u8], plac
     ensures stands { Stands place (answer_line number answer reply.now) room.old result room.new }
     ensures upper_bound { result ≤ place + most_line }
 {
-    let length = answer.length;
-    let outcome = answer.outcome;
     let session = answer.session;
     end_of(request_line(
         number,
-        word_of(outcome),
+        word_of(answer.outcome),
         session.state,
         session.status,
         answer.pages,
-        &reply[..length],
+        &reply[..answer.length],
         room,
         place,
     ))
@@ -98,34 +94,27 @@ fn write_line(number: usize, answer: Answer, reply: &[u8], room: &mut [u8], plac
 // Runs one request, and writes its line.
 fn run_one(
     file: &[u8],
-    start: usize,
-    size: usize,
+    span: Span,
     progress: Progress,
     flash: &mut [u8],
     eeprom: &mut [u8],
     reply: &mut [u8],
     room: &mut [u8],
 ) -> Progress
-    requires placed { Placed file.now start size }
+    requires placed { Placed file.now span }
     requires reply_len { length reply.old ≡ reply_size }
     requires number_le_most_file { (progress.number ≤ most_file) × (progress.place + most_line ≤ length room.old) }
     ensures { let b = board_at progress flash.old eeprom.old in
-        Ran progress b (asked file.now (span start size) b) result
+        Ran progress b (asked file.now span b) result
         flash.new eeprom.new room.old room.new }
 {
-    let number = progress.number;
-    let place = progress.place;
-    let before = progress.session;
-    let config = progress.config;
-    let answer = ask_board(file, start, size, before, config, flash, eeprom, reply);
-    let end = write_line(number, answer, reply, room, place);
-    let after = answer.session;
-    let changed = answer.config;
+    let answer = ask_board(file, span, progress, flash, eeprom, reply);
+    let place = write_line(progress.number, answer, reply, room, progress.place);
     Progress {
-        session: after,
-        config: changed,
-        number: number + 1,
-        place: end,
+        session: answer.session,
+        config: answer.config,
+        number: progress.number + 1,
+        place,
     }
 }
 
@@ -149,15 +138,9 @@ pub(crate) fn run_all(
         place,
     };
     let mut cursor: usize = 0;
-    loop {
-        match next_request(file, cursor) {
-            Met::Request(start, size) => {
-                progress = run_one(file, start, size, progress, flash, eeprom, reply, room);
-                cursor = start + size;
-            }
-            Met::NoMore => {
-                return progress.place;
-            }
-        }
+    while let Some(span) = next_request(file, cursor) {
+        progress = run_one(file, span, progress, flash, eeprom, reply, room);
+        cursor = span.start + span.size;
     }
+    progress.place
 }

@@ -6,12 +6,12 @@ use Rattle.lines.proofs.LineLaws.{refused_line_le}
 use Rattle.run.proofs.RunLaws.{front_stands, accepted_stands, refused_stands}
 use Rattle.run.proofs.answer.write_whole.Goals as goal
 
-pub returns-in-Accepted : goal.returns-in-Accepted
-returns-in-Accepted c = accepted_stands _ (sym c.in-Accepted.ensures) _ _ _ c.run_accepted.ensures
+pub returns-in-Ok : goal.returns-in-Ok
+returns-in-Ok c = accepted_stands _ (sym c.in-Ok.ensures) _ _ _ c.run_accepted.ensures
 
-pub returns-in-Refused : goal.returns-in-Refused
-returns-in-Refused c =
+pub returns-in-Err : goal.returns-in-Err
+returns-in-Err c =
     let put = c.refused_line.ensures in
     let j =
     front_stands _ most_refused_line _ _ _ _ (refused_line_le _ _) (omega arith) c.requires (put.value, put.room_after) c.end_of.ensures in
-    refused_stands _ _ _ _ _ _ (sym c.in-Refused.ensures) j.0
+    refused_stands _ _ _ _ _ (sym c.in-Err.ensures) (rw (← c.number.ensures) j.0)

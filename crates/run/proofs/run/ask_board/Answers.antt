@@ -4,4 +4,4 @@ use Rattle.run.proofs.RunLaws.{stepped_asked}
 use Rattle.run.proofs.run.ask_board.Goals as goal
 
 pub returns : goal.returns
-returns c = stepped_asked _ _ _ c.requires.placed _ _ _ _ _ _ _ c.requires.reply_len c.step.ensures
+returns c = stepped_asked c.args.file.now c.args.span _ _ _ _ _ _ _ c.requires.reply_len c.step.ensures

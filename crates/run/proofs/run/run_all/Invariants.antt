@@ -3,8 +3,8 @@ use Rattle.std.proofs.Common.{◌-◌, length}
 use Rattle.run.proofs.RunLaws.{SoFar}
 use Rattle.run.proofs.run.run_all.Given as goal
 
-abbrev pub invariant-loop-start : goal.invariant-loop-start
-invariant-loop-start l = SoFar l.file l.fn.flash l.fn.eeprom l.fn.room l.fn.place l.flash l.eeprom l.reply l.room l.progress l.cursor
+abbrev pub invariant-loop-span : goal.invariant-loop-span
+invariant-loop-span l = SoFar l.file l.fn.flash l.fn.eeprom l.fn.room l.fn.place l.flash l.eeprom l.reply l.room l.progress l.cursor
 
-abbrev pub decreases-loop-start : goal.decreases-loop-start
-decreases-loop-start l = length l.file - l.cursor
+abbrev pub decreases-loop-span : goal.decreases-loop-span
+decreases-loop-span l = length l.file - l.cursor
