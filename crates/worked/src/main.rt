@@ -11,7 +11,6 @@ mod odd_board;
 
 use command::Command;
 use memory::FlashAddress;
-use reader::Fit;
 
 // The command that programs a range of flash.
 fn to_flash(start: u16, end: u16) -> Command
@@ -24,11 +23,7 @@ fn to_flash(start: u16, end: u16) -> Command
 fn body_at(command: Command, n: usize) -> usize
     ensures { result ≡ body_at (fit command n) }
 {
-    match reader::fit_of(command, n) {
-        Fit::Fits(parts) => parts.body,
-        Fit::BadAddress => 0,
-        Fit::WrongLength => 0,
-    }
+    reader::fit_of(command, n).map_or(0, |parts| parts.body)
 }
 
 // X for 00AFh is 15; the transfer of one byte there is 64 bytes, and not 65.
