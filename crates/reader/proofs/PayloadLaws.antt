@@ -13,7 +13,7 @@ use Rattle.command.specs.Transfer.{bad_length}
 use Rattle.std.specs.Option.{ok_or}
 use Rattle.command.specs.declared.reader.Fault.{Fault}
 use Rattle.command.specs.declared.reader.Fault.TheVariants.{Stall}
-use Rattle.command.specs.Reader.{Reading, read_form, read_command, parts_of}
+use Rattle.command.specs.Reader.{read_form, read_command, parts_of}
 use Rattle.command.specs.declared.command.Command.{Command}
 use Rattle.command.specs.declared.reader.Parts.{Parts}
 use Rattle.reader.specs.Payload.{Fit, Judgement, BadAddress, WrongLength, fit, judged, judgement, reading}

@@ -1,13 +1,12 @@
 -- `fates::fate_of` meets its contract: memories that have not their sizes stall, and the others are asked.
 -- Assumes nothing.
-use Rattle.std.specs.Prelude.{Some}
 use Rattle.std.specs.Result.{result_ok}
 use Rattle.std.proofs.Common.{sym, ap, ◌∙◌}
 use Rattle.rules.specs.Session.{idle}
 use Rattle.rules.specs.Result.{board}
 use Rattle.rules.specs.Answered.{Sizes}
 use Rattle.fates.specs.Fate.{sized_fate}
-use Rattle.fates.proofs.FateLaws.{listed, unlisted, other_sizes, stops, ended}
+use Rattle.fates.proofs.FateLaws.{listed, other_sizes, stops, ended}
 use Rattle.fates.proofs.fate.fate_of.Goals as goal
 
 pub returns-then-flash-ne-FLASH_SIZE : goal.returns-then-flash-ne-FLASH_SIZE
