@@ -123,7 +123,7 @@ fn put(
 // Writes a command into the room, and answers how many bytes that took; a program transfer with its body and its suffix, at which
 // no other command looks. Refuses a command that the loader would not take with 8, and a room that is too short with 9; then the
 // room stays as it was, and otherwise the room past the answer does.
-#[tactic(auto, using(crate::proofs::WriterLaws::take_head_of), unfolding(crate::specs::Writer::write_command, crate::specs::Writer::room_after, crate::specs::Writer::put_bytes, crate::specs::Writer::command_bytes))]
+#[tactic(auto, using(crate::proofs::WriterLaws::put_command), unfolding(crate::specs::Writer::write_command, crate::specs::Writer::room_after))]
 pub fn write_command(
     command: Command,
     body: &[u8],
