@@ -1,7 +1,9 @@
--- Laws of a display: how long its lines are, and its first line by itself.
+-- Laws of an address, and of a display: how long its lines are, and its first line by itself.
 -- Assumes nothing.
+use Rattle.std.specs.Int.{to_be_bytes}
+use Rattle.std.proofs.Common.{w16, ◌/◌, ◌%◌}
 use mathlib.Core.Path.{◌≡◌, refl, ap, ◌∙◌}
-use mathlib.Core.List.{List, [], ◌++◌}
+use mathlib.Core.List.{List, [], ◌∷◌, ◌++◌}
 use Prim.Native.Nat.{ℕ, zero, suc, ◌+◌, ◌-◌, ◌*◌, ◌≤◌, ◌<◌, min}
 use native.Mathlib.Nat.{zero-lt-suc}
 use native.Mathlib.Omega.{arith}
@@ -10,7 +12,11 @@ use lib.Seq.{length-take-le}
 use Rattle.words.specs.Words.{count, part}
 use Rattle.lines.specs.Text.{hex_bytes}
 use Rattle.lines.proofs.TextLaws.{length_hex_bytes}
-use Rattle.plug.specs.Answers.{display_line, display_lines, line_count, display_text}
+use Rattle.plug.specs.Answers.{hex_address, display_line, display_lines, line_count, display_text}
+
+-- the digits of the bytes that an address is taken apart into
+pub address_bytes : (a : ℕ) (bytes : List ℕ) → a < 65536 → bytes ≡ to_be_bytes w16 a → hex_bytes bytes ≡ hex_address a
+address_bytes a bytes h e = let high : a / 256 % 256 ≡ a / 256 = omega arith in rw e (ap (λ x. hex_bytes (x ∷ a % 256 ∷ [])) high)
 
 length_part : (a e : ℕ) (f : List ℕ) → e < length f → length (part a e f) ≡ count a e
 length_part a e f h = length-take-le (count a e) (drop a f) (simp length-drop (omega arith))

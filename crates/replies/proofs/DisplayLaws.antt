@@ -1,5 +1,6 @@
 -- The lines of a display as the code puts them.
 -- Assumes nothing.
+use mathlib.Core.Logic.{⊎_elim}
 use mathlib.Core.Path.{◌≡◌, refl, sym, ap, ◌∙◌}
 use mathlib.Core.List.{List, [], ◌++◌, append_assoc, append-nil}
 use Prim.Native.Nat.{ℕ, suc, ◌+◌, ◌-◌, ◌*◌, ◌≤◌, ◌<◌, min, zero-le}
@@ -16,6 +17,7 @@ use Rattle.plug.specs.declared.board.Config.{Config}
 use Rattle.plug.specs.Commands.{flash_size}
 use Rattle.plug.specs.Answers.{line_end, hex_address, display_line, display_text}
 use Rattle.plug.specs.Step.{refused, told}
+use Rattle.std.proofs.lemmas.Bool.{cases_lt}
 use Rattle.plug.proofs.AnswerLaws.{length_line, first_line, none_left}
 use Rattle.replies.specs.Replies.{displayed}
 
@@ -59,16 +61,15 @@ module _ (at from to equals : ℕ) (f m m₁ m₂ : List ℕ) (h : from < to) (l
 -- the lines of the bytes from `first` up to before `from` stand in the room, and with those that are left they are the whole display
 pub record Displayed (first past from : ℕ) (f room₀ : List ℕ) (place : ℕ) (room : List ℕ) : Type 0 where
   pub done : List ℕ
-  pub not_past : from ≤ past
   pub whole : display_text first (past - 1) f ≡ done ++ display_text from (past - 1) f
   pub stands : Stands 0 done room₀ place room
 
-pub none_displayed : (first past : ℕ) (f room : List ℕ) → first ≤ past → Displayed first past first f room 0 room
-none_displayed first past f room h = record { done = []; not_past = h; whole = refl; stands = none_stands 0 room zero-le }
+pub none_displayed : (first past : ℕ) (f room : List ℕ) → Displayed first past first f room 0 room
+none_displayed first past f room = record { done = []; whole = refl; stands = none_stands 0 room zero-le }
 
 module _ {first past from : ℕ} {f room₀ : List ℕ} {place : ℕ} {room : List ℕ} (d : Displayed first past from f room₀ place room) where
   -- the next line ends at `to`
-  module _ (to : ℕ) (more : from < past) (here : to ≡ min (from + 16) past) where
+  module _ (to : ℕ) (more : from < past) (here : to ≡ min past (from + 16)) where
     split : display_text from (past - 1) f ≡ display_line from (to - 1) f ++ display_text to (past - 1) f
     split = first_line from (past - 1) to f (omega arith) (omega arith)
 
@@ -79,12 +80,21 @@ module _ {first past from : ℕ} {f room₀ : List ℕ} {place : ℕ} {room : Li
         let all = ap length d.whole ∙ length-append d.done (display_text from (past - 1) f) in
         omega (arith, d.stands.ends, d.stands.same_size)
 
+    -- the line ends sixteen bytes on, or no line is left
+    next : display_text to (past - 1) f ≡ display_text (from + 16) (past - 1) f
+    next =
+        ⊎_elim
+        (λ (h : past < from + 16). none_left to (past - 1) f (omega arith) ∙ sym (none_left (from + 16) (past - 1) f (omega arith)))
+        (λ (h : from + 16 ≤ past). let e : to ≡ from + 16 = omega arith in ap (λ x. display_text x (past - 1) f) e)
+        (cases_lt past (from + 16))
+
     pub one_more : {place' : ℕ} {room' : List ℕ} → Stands place (display_line from (to - 1) f) room place' room'
-        → Displayed first past to f room₀ place' room'
+        → Displayed first past (from + 16) f room₀ place' room'
     one_more s = record {
       done = d.done ++ display_line from (to - 1) f;
-      not_past = omega arith;
-      whole = d.whole ∙ ap (λ x. d.done ++ x) split ∙ sym (append_assoc d.done (display_line from (to - 1) f) (display_text to (past - 1) f));
+      whole = d.whole
+          ∙ ap (λ x. d.done ++ x) (split ∙ ap (λ x. display_line from (to - 1) f ++ x) next)
+          ∙ sym (append_assoc d.done (display_line from (to - 1) f) (display_text (from + 16) (past - 1) f));
       stands = joined d.stands s;
     }
 

@@ -12,9 +12,13 @@ use Rattle.plug.specs.Step.{Result, refused, told}
 abbrev pub quiet_answer : Config → Outcome → Answer
 quiet_answer c o = record { outcome = o; config = c; length = 0; pages = 0 }
 
+-- so many characters, the configuration after it and the pages that were stored
+abbrev pub told_answer : Config → ℕ → ℕ → Answer
+told_answer c k n = record { outcome = Answered; config = c; length = k; pages = n }
+
 -- `.` CR LF, the configuration after it and the pages that were stored
 abbrev pub done_answer : Config → ℕ → Answer
-done_answer c n = record { outcome = Answered; config = c; length = 3; pages = n }
+done_answer c n = told_answer c 3 n
 
 -- "9 in place of whichever answer doesn't fit": the same in a room of any size
 abbrev pub done_in : List ℕ → Config → ℕ → Answer

@@ -7,7 +7,8 @@ ghost use Rattle.plug.specs.Step.{in_room};
 ghost use Rattle.plug.specs.Answered.{Replied};
 ghost use Rattle.replies.specs.Replies.{displayed};
 
-use crate::reply::{no_room, quiet};
+use crate::reply::{answered, no_room, quiet};
+use lines::hex_text;
 use memory::FlashAddress;
 use plug::{Answer, Config, FLASH_SIZE, Outcome};
 
@@ -28,11 +29,10 @@ fn put_line(room: &mut [u8], at: usize, flash: &[u8], from: usize, to: usize) ->
     requires from_in_bounds { at + 7 + 2 * (to - from) ≤ length room.old }
     ensures { Stands at (display_line from (to - 1) flash.now) room.old result room.new }
 {
-    let high = (from / 256) as u8;
-    let low = (from % 256) as u8;
-    let equals = lines::hex_text(&[high, low], room, at).unwrap();
+    let address = from as u16;
+    let equals = hex_text(&address.to_be_bytes(), room, at).unwrap();
     words::lay(room, equals, b"=");
-    let end = lines::hex_text(&flash[from..to], room, equals + 1).unwrap();
+    let end = hex_text(&flash[from..to], room, equals + 1).unwrap();
     words::lay(room, end, b"\r\n");
     end + 2
 }
@@ -44,11 +44,9 @@ fn put_lines(room: &mut [u8], flash: &[u8], first: usize, past: usize) -> usize
     ensures { Stands 0 (display_text first (past - 1) flash.now) room.old result room.new }
 {
     let mut place = 0;
-    let mut from = first;
-    while from < past {
-        let to = (from + LINE).min(past);
+    for from in (first..past).step_by(LINE) {
+        let to = past.min(from + LINE);
         place = put_line(room, place, flash, from, to);
-        from = to;
     }
     place
 }
@@ -78,10 +76,5 @@ pub fn say_display(
         return no_room(config);
     }
     let length = put_lines(room, flash, first, past);
-    Answer {
-        outcome: Outcome::Answered,
-        config,
-        length,
-        pages: 0,
-    }
+    answered(config, length, 0)
 }

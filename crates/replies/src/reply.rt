@@ -4,8 +4,9 @@ ghost use Rattle.words.specs.Words.{laid};
 ghost use Rattle.plug.specs.Answers.{done_text, value_text, blank_text};
 ghost use Rattle.plug.specs.Step.{told, in_room};
 ghost use Rattle.plug.specs.Answered.{Replied};
-ghost use Rattle.replies.specs.Replies.{quiet_answer, done_in};
+ghost use Rattle.replies.specs.Replies.{quiet_answer, told_answer, done_in};
 
+use lines::hex_text;
 use memory::FlashAddress;
 use plug::{Answer, Config, Outcome};
 
@@ -34,6 +35,18 @@ pub fn no_room(config: Config) -> Answer
     quiet(config, Outcome::Refused(TOO_SHORT))
 }
 
+// An answer of so many characters, which stand in the room.
+pub(crate) fn answered(config: Config, length: usize, pages: usize) -> Answer
+    ensures { result ≡ told_answer config length pages }
+{
+    Answer {
+        outcome: Outcome::Answered,
+        config,
+        length,
+        pages,
+    }
+}
+
 // Says a text; nothing is stored.
 pub fn say(config: Config, text: &[u8], room: &mut [u8]) -> Answer
     ensures { let said = told config text.now in
@@ -42,12 +55,7 @@ pub fn say(config: Config, text: &[u8], room: &mut [u8]) -> Answer
     if !words::lay(room, 0, text) {
         return no_room(config);
     }
-    Answer {
-        outcome: Outcome::Answered,
-        config,
-        length: text.len(),
-        pages: 0,
-    }
+    answered(config, text.len(), 0)
 }
 
 // Says that so many pages were stored, with the configuration after it.
@@ -58,12 +66,7 @@ pub fn done(config: Config, pages: usize, room: &mut [u8]) -> Answer
     if !words::lay(room, 0, b".\r\n") {
         return no_room(config);
     }
-    Answer {
-        outcome: Outcome::Answered,
-        config,
-        length: DONE_SIZE,
-        pages,
-    }
+    answered(config, DONE_SIZE, pages)
 }
 
 // "value" & "." & "CR" & "LF".
@@ -72,7 +75,7 @@ pub fn say_value(config: Config, value: u8, room: &mut [u8]) -> Answer
         Replied (in_room config (length room.old) said) result room.new room.old }
 {
     let mut text = [0u8; 5];
-    let end = lines::hex_text(&[value], &mut text, 0).unwrap();
+    let end = hex_text(&[value], &mut text, 0).unwrap();
     words::lay(&mut text, end, b".\r\n");
     say(config, &text, room)
 }
@@ -82,10 +85,8 @@ pub fn say_address(config: Config, address: FlashAddress, room: &mut [u8]) -> An
     ensures { let said = told config (blank_text (Some address.0)) in
         Replied (in_room config (length room.old) said) result room.new room.old }
 {
-    let high = (address.0 / 256) as u8;
-    let low = (address.0 % 256) as u8;
     let mut text = [0u8; 6];
-    let end = lines::hex_text(&[high, low], &mut text, 0).unwrap();
+    let end = hex_text(&address.0.to_be_bytes(), &mut text, 0).unwrap();
     words::lay(&mut text, end, b"\r\n");
     say(config, &text, room)
 }

@@ -41,4 +41,4 @@ returns c =
     let a = c.args in
     let last : a.end.0 + 1 - 1 ≡ a.end.0 = omega arith in
     rw (forward a.config a.start.0 a.end.0 a.flash.now c.if-flash-ne-FLASH_SIZE.false (omega arith))
-    (stands_said _ _ _ _ _ (rw last at c.put_lines-length.ensures))
+    (rw c.answered.ensures (stands_said _ _ _ _ _ (rw last at c.put_lines-length.ensures)))

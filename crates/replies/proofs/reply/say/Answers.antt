@@ -9,4 +9,4 @@ returns-then-not-lay c =
     rw c.no_room.ensures (not_said _ _ _ _ _ c.lay.ensures.value c.lay.ensures.memory_after (ap not c.if-not-lay.true))
 
 pub returns : goal.returns
-returns c = said _ _ _ _ _ c.lay.ensures.value c.lay.ensures.memory_after (ap not c.if-not-lay.false)
+returns c = rw c.answered.ensures (said _ _ _ _ _ c.lay.ensures.value c.lay.ensures.memory_after (ap not c.if-not-lay.false))
