@@ -80,10 +80,17 @@ def powers_of(text):
 
 
 def bits(text):
-    """The first bit of each of the four words, and how many bits a word and a byte have, by the constants of packing.rt."""
+    """The first bit of each of the four words, and how many bits a word has, by the constants of packing.rt; and how many a byte has."""
     powers = powers_of(text)
-    total = re.search(r"\(a as u64\)(?: \+ (\w+) \* \(b as u64\))(?: \+ (\w+) \* \(c as u64\))(?: \+ (\w+) \* \(d as u64\))", text)
-    return [0] + [powers[name] for name in total.groups()], powers["WORD"], powers["BYTE"]
+    total = re.search(r"u64::from\(a\) \+ (\w+) \* u64::from\(b\) \+ (\w+) \* u64::from\(c\) \+ (\w+) \* u64::from\(d\)", text)
+    return [0] + [powers[name] for name in total.groups()], powers["WORD"], low_byte_first(text, r"low, high")
+
+
+def low_byte_first(text, bytes_named):
+    """How many bits a byte has: those of the library's numbers, where a file makes one of these bytes, the low one first."""
+    if not re.search(rf"from_le_bytes\(\[{bytes_named}\]\)", text):
+        raise ValueError(f"no number is made of {bytes_named}, the low byte first")
+    return 8
 
 
 def named(first, width, name):
@@ -92,17 +99,17 @@ def named(first, width, name):
 
 def field(word):
     """A word that is packed, by its name: a number that stands there always is `-`, if it is 0."""
-    word = word.removesuffix(" as u16").removesuffix(".0")
+    word = re.sub(r"^u16::from\((\w+)\)$", r"\1", word).removesuffix(".0")
     return "-" if word == "0" else word
 
 
 def serial_from_code(read):
     """The two tables of the serial plug, by the code of crates/plugnumbers."""
     config, outcome = read("plugnumbers/config_number.rt"), read("plugnumbers/outcome_number.rt")
-    powers = powers_of(config)
-    packed = re.findall(r"(?:\+ (\w+) \* )?\(config\.(\w+) as u32\)", config)
-    four = [named(powers[worth] if worth else 0, powers["BYTE"], CONFIG[name]) for worth, name in packed]
-    second = powers_of(outcome)[re.search(r"\(a as u64\) \+ (\w+) \* \(b as u64\)$", outcome, re.MULTILINE)[1]]
+    byte = low_byte_first(config, r"[^\]]*")
+    packed = re.findall(r"config\.(\w+)", re.search(r"u32::from_le_bytes\(\[([^\]]*)\]\)", config)[1])
+    four = [named(n * byte, byte, CONFIG[name]) for n, name in enumerate(packed)]
+    second = powers_of(outcome)[re.search(r"u64::from\(a\) \+ (\w+) \* u64::from\(b\)$", outcome, re.MULTILINE)[1]]
     rows = [(arm, *map(str.strip, words.split(","))) for arm, words in ARM.findall(outcome)]
     outcomes = sorted((int(kind), SERIAL_OUTCOME[arm], field(value)) for arm, kind, value in rows)
     return {
@@ -118,7 +125,7 @@ def from_code(read):
     session, outcome = read("sessionnumbers/session_number.rt"), read("sessionnumbers/outcome_number.rt")
     config, command = read("numbers/config_number.rt"), read("commandnumbers/command_number.rt")
 
-    state, status = re.search(r"two_bytes\(session\.(\w+), session\.(\w+)\), pending", session).groups()
+    state, status = re.search(r"two_bytes\(session\.(\w+), session\.(\w+)\), session\.pending", session).groups()
     head = [named(0, byte, state), named(byte, byte, status), named(starts[1], word, "kind")]
     rows = [(arm, *map(str.strip, words.split(","))) for arm, words in ARM.findall(session)]
     kinds = sorted((int(kind), SESSION[arm], field(c), field(d)) for arm, first, kind, c, d in rows if first == "head")

@@ -307,7 +307,7 @@ class Plug:
         for phrase, _, kind, data, answer in self.rows():
             sent = record(kind, data, A)
             need = len(self.step(self.board(), sent)["text"])
-            self.same(self.step(self.board(), sent, need)["done"][0], "some", f"that {phrase} is done in a room of {need}")
+            self.same(self.step(self.board(), sent, need)["done"][0], "Some", f"that {phrase} is done in a room of {need}")
             self.same(need == 0, answer == "none", f"that {phrase} needs no room")
             if need:
                 result = self.step(self.board(), sent, need - 1)
