@@ -4,7 +4,7 @@ ghost use Rattle.numbers.specs.Layout.{pack_read_command, pack_block, pack_comma
 
 use command::Command;
 use memory::{Block, EepromAddress, FlashAddress, Range};
-use numbers::{first_word, low_byte, pack_words, second_word, third_word};
+use numbers::{low_byte, pack_words, words_of};
 
 fn pack_read_command(range: Range) -> u64
     ensures { result ≡ pack_read_command range }
@@ -74,5 +74,6 @@ fn command_for(kind: u16, first: u16, last: u16) -> Command
 pub fn command_of(n: u64) -> Command
     ensures { result ≡ command_of n }
 {
-    command_for(first_word(n), second_word(n), third_word(n))
+    let [kind, first, last, _] = words_of(n);
+    command_for(kind, first, last)
 }

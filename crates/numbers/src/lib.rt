@@ -8,6 +8,4 @@ mod config_number;
 mod packing;
 
 pub use config_number::{config_of, pack_config};
-pub use packing::{
-    first_word, fourth_word, high_byte, low_byte, pack_words, second_word, third_word, two_bytes,
-};
+pub use packing::{low_byte, pack_words, words_of};

@@ -3,9 +3,7 @@ ghost use Rattle.std.specs.Prelude.{◌≡◌};
 ghost use Rattle.numbers.specs.Layout.{pack_read, pack_start, pack_pending, pack_session, pending_of, session_of};
 
 use memory::{EepromAddress, FlashAddress, Range};
-use numbers::{
-    first_word, fourth_word, high_byte, low_byte, pack_words, second_word, third_word, two_bytes,
-};
+use numbers::{low_byte, pack_words, words_of};
 use rules::{Pending, Session, StartKind};
 
 fn pack_read(head: u16, range: Range) -> u64
@@ -42,7 +40,8 @@ fn pack_pending(head: u16, pending: Pending) -> u64
 pub fn pack_session(session: Session) -> u64
     ensures { result ≡ pack_session session }
 {
-    pack_pending(two_bytes(session.state, session.status), session.pending)
+    let head = u16::from_le_bytes([session.state, session.status]);
+    pack_pending(head, session.pending)
 }
 
 #[tactic(auto, unfolding(numbers::specs::Layout::pending_of))]
@@ -65,12 +64,12 @@ fn pending_of(kind: u16, first: u16, last: u16) -> Pending
 pub fn session_of(n: u64, busy: u16) -> Session
     ensures { result ≡ session_of n busy }
 {
-    let head = first_word(n);
-    let pending = pending_of(second_word(n), third_word(n), fourth_word(n));
+    let [head, kind, first, last] = words_of(n);
+    let [state, status] = head.to_le_bytes();
     Session {
-        state: low_byte(head),
-        status: high_byte(head),
-        pending,
+        state,
+        status,
+        pending: pending_of(kind, first, last),
         busy,
     }
 }
