@@ -13,7 +13,7 @@ taken_told = record {
   bad_address_lem = λ x y z. (refl, refl, refl);
   fields = λ f x y z. (refl, refl, refl);
   wrong_checksum = λ x y z. (refl, refl, refl);
-  refused = λ n x y z. (refl, refl, refl);
+  refused = λ e x y z. (refl, refl, refl);
 }
 
 -- what is told of one outcome is told of another that is the same

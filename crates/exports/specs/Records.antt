@@ -1,8 +1,7 @@
 -- What the exported functions of the serial plug promise: the definitions of the other crates, told in numbers. Assumes nothing: these
 -- are definitions.
-use Rattle.std.specs.Prelude.{◌≡◌, List, ℕ, length}
-use Rattle.record.specs.declared.fields.Reading.{Reading}
-use Rattle.record.specs.declared.fields.Reading.TheVariants.{Taken, WrongChecksum, Refused}
+use Rattle.std.specs.Prelude.{◌≡◌, List, ℕ, length, Ok, Err}
+use Rattle.record.specs.Reader.{Reading}
 use Rattle.plug.specs.Step.{Board, board, Result, next, pages}
 use Rattle.plug.specs.Answered.{room_after}
 use Rattle.plugnumbers.specs.Layout.{config_of, pack_config, pack_outcome}
@@ -23,16 +22,13 @@ pub record RecordTold (b : Board) (r : Result) (p₀ : List ℕ) (outcome config
 
 -- the load offset, the type and how many bytes of data; where no record is taken they stay as they were
 abbrev pub offset_told : Reading → ℕ → ℕ
-offset_told (Taken f) before = f.offset
-offset_told WrongChecksum before = before
-offset_told (Refused n) before = before
+offset_told (Ok f) before = f.offset
+offset_told (Err e) before = before
 
 abbrev pub kind_told : Reading → ℕ → ℕ
-kind_told (Taken f) before = f.kind
-kind_told WrongChecksum before = before
-kind_told (Refused n) before = before
+kind_told (Ok f) before = f.kind
+kind_told (Err e) before = before
 
 abbrev pub count_told : Reading → ℕ → ℕ
-count_told (Taken f) before = f.length
-count_told WrongChecksum before = before
-count_told (Refused n) before = before
+count_told (Ok f) before = f.length
+count_told (Err e) before = before

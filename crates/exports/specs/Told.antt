@@ -4,7 +4,8 @@ use Rattle.command.specs.declared.command.Command.{Command}
 use Rattle.command.specs.declared.reader.Parts.{Parts}
 use Rattle.command.specs.declared.reader.Fault.TheVariants as C
 use Rattle.record.specs.declared.fields.Fields.{Fields}
-use Rattle.record.specs.declared.fields.Reading.TheVariants as R
+use Rattle.record.specs.declared.reader.ReadError.{ReadError}
+use Rattle.record.specs.declared.reader.ReadError.TheVariants.{WrongChecksum}
 use Rattle.rules.specs.Result.{Board, Result, next, pages, reply_after}
 use Rattle.rules.specs.declared.answer.Outcome.TheVariants.{Done, Stall, Started, Refused}
 use Rattle.rules.specs.declared.session.StartKind.{StartKind}
@@ -23,9 +24,10 @@ pub record TakenTold : Type 0 where
   pub stall : (x y z : ℕ) → (command_told (Err C.Stall) x ≡ x) × (body_told (Err C.Stall) y ≡ y) × (suffix_told (Err C.Stall) z ≡ z)
   pub bad_address_lem : (x y z : ℕ) → (command_told (Err C.BadAddress) x ≡ x) × (body_told (Err C.BadAddress) y ≡ y) × (suffix_told (Err C.BadAddress) z ≡ z)
   pub fields : (f : Fields) (x y z : ℕ)
-      → (offset_told (R.Taken f) x ≡ f.offset) × (kind_told (R.Taken f) y ≡ f.kind) × (count_told (R.Taken f) z ≡ f.length)
-  pub wrong_checksum : (x y z : ℕ) → (offset_told R.WrongChecksum x ≡ x) × (kind_told R.WrongChecksum y ≡ y) × (count_told R.WrongChecksum z ≡ z)
-  pub refused : (n x y z : ℕ) → (offset_told (R.Refused n) x ≡ x) × (kind_told (R.Refused n) y ≡ y) × (count_told (R.Refused n) z ≡ z)
+      → (offset_told (Ok f) x ≡ f.offset) × (kind_told (Ok f) y ≡ f.kind) × (count_told (Ok f) z ≡ f.length)
+  pub wrong_checksum : (x y z : ℕ)
+      → (offset_told (Err WrongChecksum) x ≡ x) × (kind_told (Err WrongChecksum) y ≡ y) × (count_told (Err WrongChecksum) z ≡ z)
+  pub refused : (e : ReadError) (x y z : ℕ) → (offset_told (Err e) x ≡ x) × (kind_told (Err e) y ≡ y) × (count_told (Err e) z ≡ z)
 
 -- the numbers after a request: of a refusal those that were lent, and else those of the result
 abbrev pub Lent : (r : Result) (s c session config : ℕ) → Type 0

@@ -7,8 +7,6 @@ ghost use Rattle.plug.specs.Step.{step};
 ghost use Rattle.plugnumbers.specs.Layout.{pack_config};
 ghost use Rattle.exports.specs.Records.{RecordTold, numbered_plug, offset_told, kind_told, count_told};
 
-use record::{Reading, Written};
-
 // Takes one record. The configuration is changed in place; `count` and `pages` get how many characters of the answer stand in the room
 // and how many pages were stored. The answer is the outcome.
 #[unsafe(no_mangle)]
@@ -58,14 +56,13 @@ pub extern "C" fn serial_read_record(
     ensures count_after { count.new ≡ count_told (read_record characters.now room.old) count.old }
 {
     match recordreader::read_record(characters, room) {
-        Reading::Taken(fields) => {
+        Ok(fields) => {
             *offset = fields.offset;
             *kind = fields.kind;
             *count = fields.length;
             0
         }
-        Reading::WrongChecksum => 1,
-        Reading::Refused(number) => number,
+        Err(error) => error.number(),
     }
 }
 
@@ -83,13 +80,13 @@ pub extern "C" fn serial_write_record(
     ensures room_after { room.new ≡ room_written offset kind sent.now room.old }
 {
     match recordwriter::write_record(offset, kind, sent, room) {
-        Written::Wrote(size) => {
+        Ok(size) => {
             *count = size;
             0
         }
-        Written::Unwritten(number) => {
+        Err(error) => {
             *count = 0;
-            number
+            error.number()
         }
     }
 }
