@@ -66,10 +66,8 @@ fn ended(session: Session, config: Config) -> Answer
 fn end_download(session: Session, config: Config) -> Answer
     ensures { result ≡ answer (end_download (bare session config)) }
 {
-    let state = session.state;
-    let pending = session.pending;
-    match pending {
-        Pending::Start(kind, address) => match state {
+    match session.pending {
+        Pending::Start(kind, address) => match session.state {
             3 | 5 => {
                 let started = Session {
                     state: 0,
@@ -80,10 +78,7 @@ fn end_download(session: Session, config: Config) -> Answer
             }
             _ => stall(session, config),
         },
-        Pending::Nothing => ended(session, config),
-        Pending::MemoryRead(_) => ended(session, config),
-        Pending::BlankReport(_) => ended(session, config),
-        Pending::OneByte(_) => ended(session, config),
+        _ => ended(session, config),
     }
 }
 
@@ -104,16 +99,12 @@ pub fn dnload(
         return stall(session, config);
     }
     if n == 0 {
-        if flash.len() != FLASH_SIZE {
-            return stall(session, config);
-        }
-        if eeprom.len() != EEPROM_SIZE {
+        if flash.len() != FLASH_SIZE || eeprom.len() != EEPROM_SIZE {
             return stall(session, config);
         }
         return end_download(session, config);
     }
-    let state = session.state;
-    match state {
+    match session.state {
         2 | 5 => command_sent(session, config, sent, flash, eeprom),
         _ => stall(session, config),
     }

@@ -55,7 +55,12 @@ fn obey(
 }
 
 // What becomes of the command in a DNLOAD's data: the answer of one that is taken, or its failure. Memories that have not their sizes are not touched: it stalls.
-pub fn fate_of(config: Config, sent: &[u8], flash: &mut [u8], eeprom: &mut [u8]) -> Result<Answer, Failure>
+pub fn fate_of(
+    config: Config,
+    sent: &[u8],
+    flash: &mut [u8],
+    eeprom: &mut [u8],
+) -> Result<Answer, Failure>
     ensures { let b = board_of idle config flash.old eeprom.old in
         Fated b (sized_fate b sent.now) result flash.new eeprom.new }
 {

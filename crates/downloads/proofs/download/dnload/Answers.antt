@@ -5,7 +5,7 @@ use Rattle.rules.specs.Result.{board}
 use Rattle.rules.specs.Answered.{Sizes}
 use Rattle.rules.proofs.StatusLaws.{one_of, none_of}
 use Rattle.rules.proofs.DownloadLaws.{stalled, too_long, ending, elsewhere}
-use Rattle.downloads.proofs.DownloadLaws.{downloaded_sized, downloaded_flash, downloaded_eeprom, stalls_anyway, commands}
+use Rattle.downloads.proofs.DownloadLaws.{downloaded_sized, downloaded_other, stalls_anyway, commands}
 use Rattle.downloads.proofs.download.dnload.Goals as goal
 
 pub returns-then-n-gt-MOST_DATA : goal.returns-then-n-gt-MOST_DATA
@@ -18,15 +18,8 @@ pub returns-then-flash-ne-FLASH_SIZE : goal.returns-then-flash-ne-FLASH_SIZE
 returns-then-flash-ne-FLASH_SIZE c =
     let a = c.args in
     let b = board a.session a.config a.flash.now a.eeprom.now in
-    rw (downloaded_flash b a.n a.sent.now c.if-flash-ne-FLASH_SIZE.true)
+    rw (downloaded_other b a.n a.sent.now c.then-flash-ne-FLASH_SIZE.either)
     (stalled a.session a.config a.flash.now a.eeprom.now c.stall-then-flash-ne-FLASH_SIZE.ensures)
-
-pub returns-then-eeprom-ne-EEPROM_SIZE : goal.returns-then-eeprom-ne-EEPROM_SIZE
-returns-then-eeprom-ne-EEPROM_SIZE c =
-    let a = c.args in
-    let b = board a.session a.config a.flash.now a.eeprom.now in
-    rw (downloaded_eeprom b a.n a.sent.now c.if-eeprom-ne-EEPROM_SIZE.true)
-    (stalled a.session a.config a.flash.now a.eeprom.now c.stall-then-eeprom-ne-EEPROM_SIZE.ensures)
 
 pub returns-then-n-eq0 : goal.returns-then-n-eq0
 returns-then-n-eq0 c =
