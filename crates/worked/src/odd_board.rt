@@ -3,7 +3,7 @@ ghost use Rattle.std.specs.Prelude.{◌≡◌};
 ghost use Rattle.worked.specs.OddBoard.{odd_config, Asked};
 
 use config::Config;
-use memory::{FlashAddress, Range};
+use memory::{EEPROM_SIZE, FLASH_SIZE, FlashAddress, Range};
 use rules::{Answer, Pending, Session};
 
 const IDLE: Session = Session {
@@ -15,9 +15,8 @@ const IDLE: Session = Session {
 
 const PENDING_READ: Session = Session {
     state: 5,
-    status: 0x00,
     pending: Pending::MemoryRead(Range::Flash(FlashAddress(0x0000), FlashAddress(0x0000))),
-    busy: 0,
+    ..IDLE
 };
 
 fn odd() -> Config
@@ -30,8 +29,8 @@ fn odd() -> Config
 fn asked(session: Session, setup: &[u8], sent: &[u8]) -> Answer
     ensures { Asked session setup.now sent.now result }
 {
-    let mut flash = [0x55; 32768];
-    let mut eeprom = [0xFF; 1024];
+    let mut flash = [0x55; FLASH_SIZE];
+    let mut eeprom = [0xFF; EEPROM_SIZE];
     let mut reply = [0x00; 1024];
     loader::step(
         session,
