@@ -154,7 +154,7 @@ class Source:
             **self.statuses(),
             **self.refusals(),
             **self.configuration(),
-            "SERIAL_WRONG_CHECKSUM": self.given("reading_number", ("WrongChecksum",)),
+            "SERIAL_WRONG_CHECKSUM": self.given("reading_number", ("Err", ("WrongChecksum",))),
         }
         delivered = {
             "loader_delivered": self.given("numbers:pack_config", self.delivered),

@@ -108,7 +108,7 @@ class Reader:
         return ("record", fields)
 
 
-PLAIN = {"[]": [], "zero": 0, "true": True, "false": False}
+PLAIN = {"[]": [], "zero": 0, "true": True, "false": False, "tt": ()}
 BUILT_IN = {
     "eqb": (2, lambda a, b: a == b),
     "leb": (2, lambda a, b: a <= b),
