@@ -54,7 +54,8 @@ fn obey(
     Ok(perform(config, command, parts, sent, flash, eeprom))
 }
 
-// What becomes of the command in a DNLOAD's data: the answer of one that is taken, or its failure. Memories that have not their sizes are not touched: it stalls.
+// What becomes of the command in a DNLOAD's data: the answer of one that is taken, or its failure. Memories that have not their sizes are
+// not touched: it stalls.
 pub fn fate_of(
     config: Config,
     sent: &[u8],

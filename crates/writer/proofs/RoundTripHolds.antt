@@ -25,7 +25,8 @@ use Rattle.command.specs.Address.{bad_address}
 use Rattle.command.specs.Transfer.{laid, transfer_of, body_place, suffix_place, transfer_length, filler_size, suffix_size, padding, bad_length}
 use Rattle.command.specs.Transfer.{body_of, suffix_of}
 use Rattle.command.specs.Reader.{parts_of}
-use Rattle.writer.specs.Writer.{Written, WrongCommand, TooShort, zeros, no_tail, tail_for, head_bytes, command_bytes, bad_parts, bad_write, cannot_write, put_answer, put_room}
+use Rattle.writer.specs.Writer.{Written, WrongCommand, TooShort, zeros, no_tail, tail_for, head_bytes, command_bytes, bad_parts, bad_write}
+use Rattle.writer.specs.Writer.{cannot_write, put_answer, put_room}
 use Rattle.writer.specs.Writer.{write_command, room_after}
 use Rattle.writer.specs.RoundTrip.{body_at, suffix_at, carried, ReadsAs, ReadsBack, ZeroPadded, ZeroFilled, Bytes, WritesBack}
 use Rattle.words.proofs.WordsLaws.{or_false}
