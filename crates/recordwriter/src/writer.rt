@@ -1,13 +1,11 @@
 // The host's record writer.
 ghost use Rattle.std.specs.Prelude.{◌≡◌, ◌+◌, ◌%◌, ◌≤◌, [], ◌∷◌, ◌++◌, length};
-ghost use Rattle.words.specs.Words.{overlay};
+ghost use Rattle.lines.specs.Room.{Stands};
 ghost use Rattle.record.specs.Record.{character_count, sum, record_over};
 ghost use Rattle.record.specs.Writer.{write_record, room_written};
 
+use lines::hex_text;
 use record::{CHECKSUM_SIZE, HEAD_SIZE, MARK, WriteError};
-
-// Where the digits of the data begin: after the mark and two digits for each byte before the data.
-const DATA_AT: usize = 1 + 2 * HEAD_SIZE;
 
 // What the bytes come to, added to a number, modulo 256.
 fn added(number: u8, bytes: &[u8]) -> u8
@@ -20,15 +18,15 @@ fn added(number: u8, bytes: &[u8]) -> u8
     total
 }
 
-// Puts the mark, and after it the digits of the head, the data and the checksum.
-fn put_record(room: &mut [u8], head: [u8; HEAD_SIZE], bytes: &[u8], checksum: u8)
+// Puts the mark, and after it the digits of the head, the data and the checksum, and answers the place after them.
+fn put_record(room: &mut [u8], head: [u8; HEAD_SIZE], bytes: &[u8], checksum: u8) -> usize
     requires { character_count (length bytes.now) ≤ length room.old }
-    ensures { room.new ≡ overlay 0 (record_over (head ++ bytes.now ++ checksum ∷ [])) room.old }
+    ensures { Stands 0 (record_over (head ++ bytes.now ++ checksum ∷ [])) room.old result room.new }
 {
     words::lay(room, 0, &[MARK]);
-    let _ = lines::hex_text(&head, room, 1);
-    let _ = lines::hex_text(bytes, room, DATA_AT);
-    let _ = lines::hex_text(&[checksum], room, DATA_AT + 2 * bytes.len());
+    let body = hex_text(&head, room, 1).unwrap();
+    let last = hex_text(bytes, room, body).unwrap();
+    hex_text(&[checksum], room, last).unwrap()
 }
 
 // Writes a record in capitals at the front of the room. Refuses data that no record can carry with 17, and a room that is too short
@@ -46,13 +44,12 @@ pub fn write_record(
     let Ok(length) = u8::try_from(bytes.len()) else {
         return Err(WriteError::BadRecord);
     };
-    let size = DATA_AT + 2 * (bytes.len() + CHECKSUM_SIZE);
+    let size = 1 + 2 * (HEAD_SIZE + bytes.len() + CHECKSUM_SIZE);
     if room.len() < size {
         return Err(WriteError::TooShort);
     }
     let [high, low] = offset.to_be_bytes();
     let head = [length, high, low, kind];
     let total = added(added(0, &head), bytes);
-    put_record(room, head, bytes, total.wrapping_neg());
-    Ok(size)
+    Ok(put_record(room, head, bytes, total.wrapping_neg()))
 }

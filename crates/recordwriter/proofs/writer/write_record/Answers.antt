@@ -17,6 +17,5 @@ returns c =
     let is : head ≡ head_bytes a.offset a.kind (length a.bytes.now) = rw (high, low, count) in
     let w : Answer a.offset a.kind a.bytes.now a.room.now _ _ =
     all_written a.offset a.kind a.bytes.now a.room.now head _ c.added-total.result c.wrapping_neg.result _ _ is
-    (omega arith) (omega arith) (omega arith) c.added.ensures c.added-total.ensures (omega arith) c.wrapping_neg.ensures
-    c.put_record.ensures in
+    (omega arith) c.added.ensures c.added-total.ensures (omega arith) c.wrapping_neg.ensures c.put_record.ensures in
     record { value = w.0; room_after = w.1 }
