@@ -7,6 +7,7 @@ use plug::Outcome;
 // The worth of the second word.
 const SECOND: u64 = 0x10000;
 
+// Stays: crates/numbers has its like for four words, but stands on the base's rules, and the serial plug on none of them.
 fn pack_words(a: u16, b: u16) -> u64
     ensures { result ≡ packed a b }
 {

@@ -8,6 +8,7 @@ use command::Command;
 use memory::{Block, Range};
 
 // The first so many of six bytes.
+// Stays: there is no heap, so a head of 3 to 6 bytes is an array of six and a size.
 #[derive(Clone, Copy)]
 pub struct Head {
     pub bytes: [u8; 6],

@@ -44,6 +44,7 @@ pub fn written_count(written: Result<usize, WriteError>) -> usize
 }
 
 // How much follows a command's head: zeros of filler and pad, bytes of the body, bytes of the suffix.
+// Stays: three sizes that `put` asks at once; an Option of them would be asked twice.
 #[derive(Clone, Copy)]
 pub struct Tail {
     pub zeros: usize,
