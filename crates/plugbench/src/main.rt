@@ -10,7 +10,6 @@ ghost use Rattle.plugrun.specs.Written.{pieces, written};
 ghost use Rattle.plugrun.specs.Turn.{most_text, IsPiece};
 
 use input::read_full;
-use lines::end_of;
 use plugrun::{MOST_ANSWER, MOST_TEXT, blank_flash, first_line, start, take_turn};
 use std::io;
 use std::io::Write;
@@ -54,7 +53,7 @@ fn write_pieces<W: Write>(output: &mut W, file: &[u8]) -> io::Result<usize>
     let mut flash = blank_flash();
     let mut reply = [0; MOST_ANSWER];
     let mut room = text_room();
-    let end = end_of(first_line(file, &mut room));
+    let end = first_line(file, &mut room).unwrap();
     let mut number = write_piece(output, file, 0, &room[..end])?;
     let mut progress = start(file);
     while let Some(turn) = take_turn(

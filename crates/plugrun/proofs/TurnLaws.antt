@@ -1,6 +1,7 @@
 -- Laws of one turn: the text of an answer, and the record that was taken.
 -- Assumes nothing.
 use Rattle.std.specs.Prelude.{Some}
+use Rattle.std.specs.Prelude.{Ok, IsOk}
 use mathlib.Core.Path.{◌≡◌, refl, ap, ◌∙◌}
 use mathlib.Core.List.{List}
 use Prim.Native.Nat.{ℕ, ◌+◌, ◌-◌, ◌≤◌}
@@ -11,10 +12,10 @@ use lib.Seq.{take-append_seam}
 use Rattle.words.specs.Words.{overlay, laid}
 use Rattle.words.proofs.WordsLaws.{overlay_front}
 use Rattle.lines.specs.Line.{head_line}
-use Rattle.lines.specs.Room.{put, put_end, Stands}
+use Rattle.lines.specs.Room.{put, Stands}
 use Rattle.lines.specs.declared.line.Word.{Word}
 use Rattle.lines.proofs.LineLaws.{head_line_le}
-use Rattle.lines.proofs.RoomLaws.{put_stands}
+use Rattle.lines.proofs.RoomLaws.{put_fits, put_there}
 use Rattle.listing.specs.declared.walk.Span.{Span}
 use Rattle.listing.specs.Records.{span}
 use Rattle.plug.specs.declared.answer.Answer.{Answer}
@@ -50,15 +51,23 @@ answer_text_le (StartedAt a) characters h = omega arith
 answer_text_le (Refused n) characters h = omega arith
 
 -- what stands before the answer: it was put at the front of a room for every text
-module _ (number pages end : ℕ) (w : Word) (q : _) (room₀ room₁ : List ℕ) (fits : most_text ≤ length room₀)
-    (l : (q ≡ put 0 (head_line number w pages) room₀) × (room₁ ≡ laid 0 (head_line number w pages) room₀)) (d : end ≡ put_end q) where
-  pub head_stands : Stands 0 (head_line number w pages) room₀ end room₁
-  head_stands = put_stands 0 end _ room₀ room₁ q (omega (arith, head_line_le number w pages, fits)) l.0 l.1 d
+module _ (number pages : ℕ) (w : Word) (q : _) (room₀ room₁ : List ℕ) (fits : most_text ≤ length room₀)
+    (l : (q ≡ put 0 (head_line number w pages) room₀) × (room₁ ≡ laid 0 (head_line number w pages) room₀)) where
+  head_room : 0 + length (head_line number w pages) ≤ length room₀
+  head_room = omega (arith, head_line_le number w pages, fits)
+
+  pub head_fits : IsOk q
+  head_fits = put_fits _ _ _ _ l.0 head_room
+
+  pub head_stands : (end : ℕ) → q ≡ Ok end → Stands 0 (head_line number w pages) room₀ end room₁
+  head_stands end d = put_there _ _ _ _ _ _ l.0 l.1 d head_room
 
   -- there is room for an answer behind it
-  pub answer_fits : (o : Outcome) (characters : List ℕ) → length characters ≤ most_answer → end + length (answer_text o characters) ≤ length room₁
-  answer_fits o characters h =
-      omega (arith, answer_text_le o characters h, head_line_le number w pages, head_stands.ends, head_stands.same_size, fits)
+  pub answer_fits : (end : ℕ) → q ≡ Ok end → (o : Outcome) (characters : List ℕ) → length characters ≤ most_answer
+      → end + length (answer_text o characters) ≤ length room₁
+  answer_fits end d o characters h =
+      let head = head_stands end d in
+      omega (arith, answer_text_le o characters h, head_line_le number w pages, head.ends, head.same_size, fits)
 
 -- ---- the record that was taken: it was answered in a room for every answer
 

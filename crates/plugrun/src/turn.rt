@@ -7,7 +7,7 @@ ghost use Rattle.plug.specs.Step.{board};
 ghost use Rattle.plugrun.specs.Written.{word_of, answer_text};
 ghost use Rattle.plugrun.specs.Turn.{most_answer, most_text, left, took, turned, answered_text};
 
-use lines::{Word, end_of, hex_text, plain_text};
+use lines::{Word, hex_text, plain_text};
 use listing::{Span, next_record};
 use memory::FlashAddress;
 use plug::{Answer, Config, Outcome};
@@ -52,8 +52,8 @@ fn put_address(address: FlashAddress, room: &mut [u8], at: usize) -> usize
 {
     let high = (address.0 / 256) as u8;
     let low = (address.0 % 256) as u8;
-    let end = end_of(hex_text(&[high, low], room, at));
-    end_of(plain_text(b"\n", room, end))
+    let end = hex_text(&[high, low], room, at).unwrap();
+    plain_text(b"\n", room, end).unwrap()
 }
 
 // Puts the answer's own characters, an address to start at, or that there is none.
@@ -62,10 +62,10 @@ fn put_answer(outcome: Outcome, characters: &[u8], room: &mut [u8], at: usize) -
     ensures { Stands at (answer_text outcome characters.now) room.old result room.new }
 {
     match outcome {
-        Outcome::Answered => end_of(plain_text(characters, room, at)),
-        Outcome::StartedReset => end_of(plain_text(b"-\n", room, at)),
+        Outcome::Answered => plain_text(characters, room, at).unwrap(),
+        Outcome::StartedReset => plain_text(b"-\n", room, at).unwrap(),
         Outcome::StartedAt(address) => put_address(address, room, at),
-        Outcome::Refused(_) => end_of(plain_text(b"-\n", room, at)),
+        Outcome::Refused(_) => plain_text(b"-\n", room, at).unwrap(),
     }
 }
 
@@ -77,7 +77,7 @@ fn write_text(number: usize, answer: Answer, reply: &[u8], room: &mut [u8]) -> u
 {
     let outcome = answer.outcome;
     let length = answer.length;
-    let head = end_of(head_line(number, word_of(outcome), answer.pages, room, 0));
+    let head = head_line(number, word_of(outcome), answer.pages, room, 0).unwrap();
     put_answer(outcome, &reply[..length], room, head)
 }
 

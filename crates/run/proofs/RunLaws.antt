@@ -1,6 +1,6 @@
 -- Laws of a run: one request and its line, and what is so far after some of them.
 -- Assumes nothing.
-use Rattle.std.specs.Prelude.{Some, None, Err}
+use Rattle.std.specs.Prelude.{Some, None, Ok, Err, IsOk}
 use mathlib.Core.Path.{◌≡◌, refl, sym, ap, subst, ◌∙◌}
 use mathlib.Core.List.{List, [], ◌∷◌, ◌++◌, append_assoc, append-nil}
 use Prim.Native.Nat.{ℕ, suc, ◌+◌, ◌-◌, ◌*◌, ◌≤◌, ◌<◌}
@@ -16,15 +16,15 @@ use Rattle.job.specs.Field.{cause_number}
 use Rattle.job.specs.declared.refusal.Refusal.{Refusal}
 use Rattle.job.specs.declared.walk.Span.{Span}
 use Rattle.job.specs.Verdict.{most_file, verdict, accepted}
-use Rattle.job.specs.Requests.{ HaveSetups, requests_of, request_count}
+use Rattle.job.specs.Requests.{HaveSetups, requests_of, request_count}
 use Rattle.job.specs.Walk.{walk, first_met}
 use Rattle.job.proofs.VerdictLaws.{file_accepted}
 use Rattle.job.proofs.WalkLaws.{steps, no_more, walk_job}
 use Rattle.lines.specs.Line.{request_line, job_line, refused_line, most_line, most_job_line}
-use Rattle.lines.specs.Room.{put, put_end, Stands}
+use Rattle.lines.specs.Room.{put, Stands}
 use Rattle.lines.specs.declared.line.Word.{Word}
 use Rattle.lines.proofs.LineLaws.{request_line_le}
-use Rattle.lines.proofs.RoomLaws.{none_stands, joined, put_stands}
+use Rattle.lines.proofs.RoomLaws.{none_stands, joined, put_fits, put_there}
 use Rattle.rules.specs.Session.{idle}
 use Rattle.rules.specs.Result.{Board, board, Result, next}
 use Rattle.rules.specs.declared.answer.Answer.{Answer}
@@ -47,17 +47,23 @@ stepped_asked file s b n a f e reply reply₀ h t =
     rw (take_rest (take (s.start + s.size - s.start) (drop s.start file)) 8, size, h) at t
 
 -- a request's line fits
-pub line_stands : (number place end : ℕ) (a : Answer) (w : Word) (reply room₀ room : List ℕ) (q : _)
-    → (a.length ≤ length reply) × (length reply ≡ reply_size) → place + most_line ≤ length room₀ → w ≡ word_of a.outcome
-    → let text = request_line number w a.session.state a.session.status a.pages (take a.length reply) in (q ≡ put place text room₀) ×
-    (room ≡ laid place text room₀)
-    → end ≡ put_end q
-    → Stands place (answer_line number a reply) room₀ end room × (end ≤ place + most_line)
-line_stands number place end a w reply room₀ room q h r e l d =
-    let n : length (take a.length reply) ≡ a.length = length-take-le a.length reply h.0 in
-    let m = request_line_le number w a.session.state a.session.status a.pages (take a.length reply) (omega (arith, n, h.0, h.1)) in
-    let t = put_stands place end _ room₀ room q (omega (arith, m, r)) l.0 l.1 d in
-    (rw (← e) t, omega (arith, m, t.ends))
+module _ (number place : ℕ) (a : Answer) (w : Word) (reply room₀ : List ℕ) (q : _) (h : (a.length ≤ length reply) × (length reply ≡ reply_size))
+    (r : place + most_line ≤ length room₀)
+    (put_there_is : q ≡ put place (request_line number w a.session.state a.session.status a.pages (take a.length reply)) room₀) where
+  short : length (request_line number w a.session.state a.session.status a.pages (take a.length reply)) ≤ most_line
+  short =
+      let n : length (take a.length reply) ≡ a.length = length-take-le a.length reply h.0 in
+      request_line_le number w a.session.state a.session.status a.pages (take a.length reply) (omega (arith, n, h.0, h.1))
+
+  pub line_fits : IsOk q
+  line_fits = put_fits _ _ _ _ put_there_is (omega (arith, short, r))
+
+  pub line_stands : (end : ℕ) (room : List ℕ) → w ≡ word_of a.outcome
+      → room ≡ laid place (request_line number w a.session.state a.session.status a.pages (take a.length reply)) room₀ → q ≡ Ok end
+      → Stands place (answer_line number a reply) room₀ end room × (end ≤ place + most_line)
+  line_stands end room e l d =
+      let t = put_there _ _ _ _ _ _ put_there_is l d (omega (arith, short, r)) in
+      (rw (← e) t, omega (arith, short, t.ends))
 
 -- ---- a run
 
@@ -148,12 +154,15 @@ module _ (file f₀ e₀ room₀ : List ℕ) (place : ℕ) (f e reply room : Lis
 -- ---- a whole job
 
 -- a line at the start of a room for every job
-pub front_stands : (end most : ℕ) (text room₀ room : List ℕ) (q : _) → length text ≤ most → most ≤ most_output → most_output ≤ length room₀
-    → (q ≡ put 0 text room₀) × (room ≡ laid 0 text room₀) → end ≡ put_end q
-    → Stands 0 text room₀ end room × (end ≤ most)
-front_stands end most text room₀ room q h k m l d =
-    let t = put_stands 0 end text room₀ room q (omega (arith, h, k, m)) l.0 l.1 d in
-    (t, omega (arith, h, t.ends))
+module _ (most : ℕ) (text room₀ : List ℕ) (q : _) (h : length text ≤ most) (k : most ≤ most_output) (m : most_output ≤ length room₀)
+    (e : q ≡ put 0 text room₀) where
+  pub front_fits : IsOk q
+  front_fits = put_fits _ _ _ _ e (omega (arith, h, k, m))
+
+  pub front_stands : (end : ℕ) (room : List ℕ) → room ≡ laid 0 text room₀ → q ≡ Ok end → Stands 0 text room₀ end room × (end ≤ most)
+  front_stands end room l d =
+      let t = put_there _ _ _ _ _ _ e l d (omega (arith, h, k, m)) in
+      (t, omega (arith, h, t.ends))
 
 module _ (file : List ℕ) (g : verdict file ≡ accepted) where
   pub ready : (reply room : List ℕ) (place : ℕ) → length reply ≡ reply_size → most_output ≤ length room → place ≤ most_job_line → Ready file reply room place

@@ -14,7 +14,7 @@ ghost use Rattle.run.specs.Run.{Placed, answer_line, board_at, Ran, Ready};
 
 use config::{Config, delivered};
 use job::{Span, next_request};
-use lines::{Word, end_of};
+use lines::Word;
 use loader::step;
 use printing::request_line;
 use requests::power_up;
@@ -79,7 +79,7 @@ fn write_line(number: usize, answer: Answer, reply: &[u8], room: &mut [u8], plac
     ensures upper_bound { result ≤ place + most_line }
 {
     let session = answer.session;
-    end_of(request_line(
+    request_line(
         number,
         word_of(answer.outcome),
         session.state,
@@ -88,7 +88,8 @@ fn write_line(number: usize, answer: Answer, reply: &[u8], room: &mut [u8], plac
         &reply[..answer.length],
         room,
         place,
-    ))
+    )
+    .unwrap()
 }
 
 // Runs one request, and writes its line.

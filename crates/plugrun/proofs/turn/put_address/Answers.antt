@@ -1,12 +1,21 @@
 -- `plugrun::turn::put_address` meets its contract: one piece after the other.
 -- Assumes nothing.
 use native.Mathlib.Omega.{arith}
-use Rattle.lines.proofs.RoomLaws.{joined, put_stands}
+use Rattle.lines.proofs.RoomLaws.{joined, put_fits, put_there}
 use Rattle.plugrun.proofs.turn.put_address.Goals as goal
+
+pub unwrap-end-requires : goal.unwrap-end-requires
+unwrap-end-requires c = put_fits _ _ _ _ c.hex_text.ensures.value (omega arith)
+
+pub unwrap-requires : goal.unwrap-requires
+unwrap-requires c =
+    let hex = c.hex_text.ensures in
+    let digits = put_there _ _ _ _ _ _ hex.value hex.room_after c.unwrap-end.ensures (omega arith) in
+    put_fits _ _ _ _ c.plain_text.ensures.value (omega (arith, digits.ends, digits.same_size))
 
 pub returns : goal.returns
 returns c =
     let hex = c.hex_text.ensures in
     let feed = c.plain_text.ensures in
-    let digits = put_stands _ _ _ _ _ _ (omega arith) hex.value hex.room_after c.end_of-end.ensures in
-    joined digits (put_stands _ _ _ _ _ _ (omega (arith, digits.ends, digits.same_size)) feed.value feed.room_after c.end_of.ensures)
+    let digits = put_there _ _ _ _ _ _ hex.value hex.room_after c.unwrap-end.ensures (omega arith) in
+    joined digits (put_there _ _ _ _ _ _ feed.value feed.room_after c.unwrap.ensures (omega (arith, digits.ends, digits.same_size)))
