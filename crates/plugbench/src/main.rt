@@ -56,9 +56,7 @@ fn write_pieces<W: Write>(output: &mut W, file: &[u8]) -> io::Result<usize>
     let end = first_line(file, &mut room).unwrap();
     let mut number = write_piece(output, file, 0, &room[..end])?;
     let mut progress = start(file);
-    while let Some(turn) = take_turn(
-        file, number, progress, &mut flash, &mut reply, &mut room,
-    ) {
+    while let Some(turn) = take_turn(file, number, progress, &mut flash, &mut reply, &mut room) {
         number = write_piece(output, file, number, &room[..turn.size])?;
         progress = turn.progress;
     }
