@@ -260,14 +260,14 @@ class Definitions:
     def named(self, name, bound, place):
         if name in bound:
             return bound[name].value if isinstance(bound[name], Later) else bound[name]
+        if is_case(name) and name not in PLAIN and name not in BUILT_IN:
+            return Case((name,))
         if name in self.files:
             return self.call(self.place(name, place), name, [])
         if name in PLAIN:
             return PLAIN[name]
         if name in BUILT_IN:
             return curried(*BUILT_IN[name])
-        if is_case(name):
-            return Case((name,))
         raise LookupError(f"there is no definition {name}")
 
     def work_out(self, expression, bound, place):

@@ -80,10 +80,10 @@ def powers_of(text):
 
 
 def bits(text):
-    """The first bit of each of the four words, and how many bits a word has, by the constants of packing.rt; and how many a byte has."""
+    """The first bit of each of the four words, by the constants of packing.rt; and how many bits a word has and a byte."""
     powers = powers_of(text)
     total = re.search(r"u64::from\(a\) \+ (\w+) \* u64::from\(b\) \+ (\w+) \* u64::from\(c\) \+ (\w+) \* u64::from\(d\)", text)
-    return [0] + [powers[name] for name in total.groups()], powers["WORD"], low_byte_first(text, r"low, high")
+    return [0] + [powers[name] for name in total.groups()], 2 * low_byte_first(text, r"a, b"), low_byte_first(text, r"a, b")
 
 
 def low_byte_first(text, bytes_named):
@@ -125,13 +125,13 @@ def from_code(read):
     session, outcome = read("sessionnumbers/session_number.rt"), read("sessionnumbers/outcome_number.rt")
     config, command = read("numbers/config_number.rt"), read("commandnumbers/command_number.rt")
 
-    state, status = re.search(r"two_bytes\(session\.(\w+), session\.(\w+)\), session\.pending", session).groups()
+    state, status = re.search(r"u16::from_le_bytes\(\[session\.(\w+), session\.(\w+)\]\)", session).groups()
     head = [named(0, byte, state), named(byte, byte, status), named(starts[1], word, "kind")]
     rows = [(arm, *map(str.strip, words.split(","))) for arm, words in ARM.findall(session)]
     kinds = sorted((int(kind), SESSION[arm], field(c), field(d)) for arm, first, kind, c, d in rows if first == "head")
 
-    pairs = re.findall(r"two_bytes\(config\.(\w+), config\.(\w+)\)", config)
-    eight = [named(start + half * byte, byte, CONFIG[pair[half]]) for start, pair in zip(starts, pairs) for half in (0, 1)]
+    packed = re.findall(r"config\.(\w+)", re.search(r"u64::from_le_bytes\(\[([^\]]*)\]\)", config)[1])
+    eight = [named(n * byte, byte, CONFIG[name]) for n, name in enumerate(packed)]
 
     commands = []
     for arm, words in ARM.findall(command):
