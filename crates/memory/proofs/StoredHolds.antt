@@ -4,20 +4,20 @@ use Rattle.std.specs.Prelude.{if◌then◌else◌}
 use mathlib.Core.Path.{◌≡◌, refl, sym, ap, ◌∙◌, subst}
 use mathlib.Core.Bool.{Bool, true, false, ◌&&◌, and-eq-true_iff}
 use mathlib.Core.List.{List, []}
-use Prim.Native.Nat.{ℕ, ◌+◌, ◌-◌, ◌*◌, ◌/◌, ◌%◌, ◌≤◌}
+use Prim.Native.Nat.{ℕ, ◌+◌, ◌-◌, ◌*◌, ◌/◌, ◌≤◌}
 use native.Mathlib.Omega.{arith}
-use lib.Dec.{eqb, leb, ltb}
+use lib.Dec.{leb}
 use lib.ListN.{length}
-use borrow.Author.Tests.{eq-eqb, ne_eqb, eqb-true, leb-true, ltb-true}
+use borrow.Author.Tests.{eq-eqb, ne_eqb, leb-true}
 use Rattle.words.proofs.WordsLaws.{overlay_programmed}
 use Rattle.memory.specs.Memory.{flash_size, flash_pages, page_size, most_flash}
 use Rattle.memory.specs.Pages.{Store, Rising, page_store, pages_met}
 use Rattle.memory.specs.Program.{storable, bytes_stores}
 use Rattle.memory.specs.Erase.{erasable, block_erase, chip_erase, pages_erase}
-use Rattle.memory.specs.Stored.{FlashStored, Storable, BytesStored, Within, PageStored, Erasable, PagesErased, NotErased, RequestsStore}
+use Rattle.memory.specs.Stored.{FlashStored, BytesStored, Within, PageStored, Erasable, PagesErased, NotErased, RequestsStore}
 use Rattle.memory.proofs.PagesLaws.{length_program_stores, rising_program_stores, length_page_store, rising_page_store, store_all_page_store}
 use Rattle.memory.proofs.ProgramLaws.{fit, programmable_fit, unfit, flash_stores_fit, flash_stores_not, both_programmed}
-use Rattle.memory.proofs.ProgramLaws.{length_bytes_stores, rising_bytes_stores, bytes_stores_programmed}
+use Rattle.memory.proofs.ProgramLaws.{is_storable, length_bytes_stores, rising_bytes_stores, bytes_stores_programmed}
 use Rattle.memory.proofs.EraseLaws.{length_pages_erase, rising_pages_erase, pages_erase_programmed}
 
 -- stores that are made where a test says so, and it does not
@@ -37,20 +37,6 @@ flash_stored a e d m = record {
       (rising_program_stores a.0 e.0 d m flash_pages f.right_size f.forward (omega (arith, f)) (omega (arith, f)));
   none = λ h. flash_stores_not a e d m (unfit flash_size a.0 e.0 d m h);
 }
-
-is_storable : (a : ℕ) (d m : List ℕ) → storable a d m ≡ true → Storable a d m
-is_storable a d m t =
-    let some = ltb 0 (length d) in
-    let in-it = leb (a + length d) (length m) in
-    let four = (and-eq-true_iff (some && in-it && eqb (length m % page_size) 0) (leb (length m) most_flash)).0 t in
-    let three = (and-eq-true_iff (some && in-it) (eqb (length m % page_size) 0)).0 four.0 in
-    let two = (and-eq-true_iff some in-it).0 three.0 in
-    record {
-      any = ltb-true 0 (length d) two.0;
-      inside = leb-true (a + length d) (length m) two.1;
-      whole = eqb-true (length m % page_size) 0 three.1;
-      short = leb-true (length m) most_flash four.1;
-    }
 
 pub bytes_stored : BytesStored
 unfolding bytes_stores

@@ -9,18 +9,15 @@ use crate::address::{Block, Page};
 use crate::page::{page_after, store_whole};
 use crate::{FLASH_PAGES, FLASH_SIZE, MOST_FLASH, PAGE_SIZE};
 
-// Stores pages of FFh, so many from a first one on, and answers how many those are.
-fn erase_pages(flash: &mut [u8], first: Page, count: usize) -> usize
+// Stores pages of FFh, so many from a first one on.
+fn erase_pages(flash: &mut [u8], first: Page, count: usize)
     requires { (page_size * (first.0 + count) ≤ length flash.old) × (length flash.old ≤ most_flash) }
-    ensures value { result ≡ count }
-    ensures flash_after { flash.new ≡ overlay (page_size * first.0) (replicate (page_size * count) 0xFF) flash.old }
+    ensures { flash.new ≡ overlay (page_size * first.0) (replicate (page_size * count) 0xFF) flash.old }
 {
     let blank = [0xFFu8; PAGE_SIZE];
-    let mut pages = 0;
-    while pages < count {
-        pages += store_whole(flash, page_after(first, pages), &blank, 0);
+    for n in 0..count {
+        store_whole(flash, page_after(first, n), &blank, 0);
     }
-    pages
 }
 
 // Erases a block, and answers how many pages were stored: 64, 64 or 128, or 0, with nothing erased, where the flash has not its
@@ -33,9 +30,9 @@ pub fn erase_block(flash: &mut [u8], block: Block) -> usize
         return 0;
     }
     match block {
-        Block::Low => erase_pages(flash, Page(0), 64),
-        Block::Middle => erase_pages(flash, Page(64), 64),
-        Block::High => erase_pages(flash, Page(128), 128),
+        Block::Low => erase_from(flash, Page(0), 64),
+        Block::Middle => erase_from(flash, Page(64), 64),
+        Block::High => erase_from(flash, Page(128), 128),
     }
 }
 
@@ -48,7 +45,7 @@ pub fn erase_chip(flash: &mut [u8]) -> usize
     if flash.len() != FLASH_SIZE {
         return 0;
     }
-    erase_pages(flash, Page(0), FLASH_PAGES)
+    erase_from(flash, Page(0), FLASH_PAGES)
 }
 
 // Erases so many pages from a first one on, and answers how many were stored: 0, with nothing erased, where the flash has not so
@@ -57,16 +54,11 @@ pub fn erase_from(flash: &mut [u8], first: Page, count: usize) -> usize
     ensures value { result ≡ length (pages_erase first count flash.old) }
     ensures flash_after { flash.new ≡ store_all (pages_erase first count flash.old) flash.old }
 {
-    if MOST_FLASH < flash.len() {
-        return 0;
-    }
     let pages = flash.len() / PAGE_SIZE;
-    let before = first.0 as usize;
-    if pages < before {
+    let before = usize::from(first.0);
+    if MOST_FLASH < flash.len() || pages < before || pages - before < count {
         return 0;
     }
-    if pages - before < count {
-        return 0;
-    }
-    erase_pages(flash, first, count)
+    erase_pages(flash, first, count);
+    count
 }

@@ -4,7 +4,7 @@ ghost use Rattle.std.specs.Prelude.{◌≡◌, ◌+◌, ◌-◌, ◌*◌, ◌%�
 ghost use Rattle.words.specs.Words.{overlay};
 ghost use Rattle.memory.specs.Memory.{page_size, most_flash, eeprom_size};
 ghost use Rattle.memory.specs.Pages.{store_all, pages_met};
-ghost use Rattle.memory.specs.Program.{programmable, flash_stores, eeprom_after, bytes_stores};
+ghost use Rattle.memory.specs.Program.{programmable, storable, flash_stores, eeprom_after, bytes_stores};
 
 use crate::address::{EepromAddress, FlashAddress, Page};
 use crate::page::{page_after, store_page, store_whole};
@@ -17,28 +17,20 @@ fn store_part(flash: &mut [u8], page: Page, at: usize, bytes: &[u8]) -> usize
     ensures value { result ≡ min 1 (length bytes.now) }
     ensures flash_after { flash.new ≡ overlay (page_size * page.0 + at) bytes.now flash.old }
 {
-    if bytes.len() == 0 {
+    if bytes.is_empty() {
         return 0;
     }
     store_page(flash, page, at, bytes)
 }
 
-// Stores whole pages, so many from a first one on, with the bytes from an index of theirs on, and answers how many pages those are.
-fn store_pages(flash: &mut [u8], first: Page, count: usize, bytes: &[u8], from: usize) -> usize
+// Stores whole pages, so many from a first one on, with the bytes from an index of theirs on.
+fn store_pages(flash: &mut [u8], first: Page, count: usize, bytes: &[u8], from: usize)
     requires { (page_size * (first.0 + count) ≤ length flash.old) × (length flash.old ≤ most_flash) × (from + page_size * count ≤ length bytes.now) }
-    ensures value { result ≡ count }
-    ensures flash_after { flash.new ≡ overlay (page_size * first.0) (take (page_size * count) (drop from bytes.now)) flash.old }
+    ensures { flash.new ≡ overlay (page_size * first.0) (take (page_size * count) (drop from bytes.now)) flash.old }
 {
-    let mut pages = 0;
-    while pages < count {
-        pages += store_whole(
-            flash,
-            page_after(first, pages),
-            bytes,
-            from + PAGE_SIZE * pages,
-        );
+    for n in 0..count {
+        store_whole(flash, page_after(first, n), bytes, from + PAGE_SIZE * n);
     }
-    pages
 }
 
 // Stores each page that the bytes meet, from an address on, and answers how many those are: a part of the first page, whole pages
@@ -49,7 +41,7 @@ fn program_pages(flash: &mut [u8], start: FlashAddress, bytes: &[u8]) -> usize
     ensures value { result ≡ pages_met start.0 (start.0 + length bytes.now - 1) }
     ensures flash_after { flash.new ≡ overlay start.0 bytes.now flash.old }
 {
-    let first = start.0 as usize;
+    let first = usize::from(start.0);
     let n = bytes.len();
     let place = first % PAGE_SIZE;
     let head = ((PAGE_SIZE - place) % PAGE_SIZE).min(n);
@@ -62,9 +54,21 @@ fn program_pages(flash: &mut [u8], start: FlashAddress, bytes: &[u8]) -> usize
         place,
         &bytes[..head],
     );
-    let whole = store_pages(flash, next, count, bytes, head);
+    store_pages(flash, next, count, bytes, head);
     let back = store_part(flash, page_after(next, count), 0, &bytes[tail..]);
-    front + whole + back
+    front + count + back
+}
+
+// Whether a flash is whole pages of at most 65,536 bytes, and there are bytes that don't pass its end.
+fn is_storable(start: FlashAddress, bytes: &[u8], flash: &[u8]) -> bool
+    ensures { result ≡ storable start.0 bytes.now flash.now }
+{
+    let first = usize::from(start.0);
+    !bytes.is_empty()
+        && first <= flash.len()
+        && bytes.len() <= flash.len() - first
+        && flash.len() % PAGE_SIZE == 0
+        && flash.len() <= MOST_FLASH
 }
 
 // Stores each page that the bytes meet, from an address on, and answers how many those are: 0, with nothing stored, where there are
@@ -73,20 +77,7 @@ pub fn store_bytes(flash: &mut [u8], start: FlashAddress, bytes: &[u8]) -> usize
     ensures value { result ≡ length (bytes_stores start bytes.now flash.old) }
     ensures flash_after { flash.new ≡ store_all (bytes_stores start bytes.now flash.old) flash.old }
 {
-    if MOST_FLASH < flash.len() {
-        return 0;
-    }
-    if flash.len() % PAGE_SIZE != 0 {
-        return 0;
-    }
-    if bytes.len() == 0 {
-        return 0;
-    }
-    let first = start.0 as usize;
-    if flash.len() < first {
-        return 0;
-    }
-    if flash.len() - first < bytes.len() {
+    if !is_storable(start, bytes, flash) {
         return 0;
     }
     program_pages(flash, start, bytes)
@@ -94,19 +85,13 @@ pub fn store_bytes(flash: &mut [u8], start: FlashAddress, bytes: &[u8]) -> usize
 
 // Whether a memory has the size that it should have, the range is forward and inside it, and the bytes are as many as the range
 // has: the one test for both memories.
-fn is_programmable(size: usize, first: usize, last: usize, bytes: &[u8], memory: &[u8]) -> bool
+fn is_programmable(size: usize, first: u16, last: u16, bytes: &[u8], memory: &[u8]) -> bool
     ensures { result ≡ programmable size first last bytes.now memory.now }
 {
-    if memory.len() != size {
-        return false;
-    }
-    if last < first {
-        return false;
-    }
-    if size <= last {
-        return false;
-    }
-    bytes.len() == last + 1 - first
+    memory.len() == size
+        && first <= last
+        && usize::from(last) < size
+        && bytes.len() == usize::from(last - first) + 1
 }
 
 // Programs a range of flash, and answers how many pages were stored. Where the flash has not its size, the range is backward or outside,
@@ -120,7 +105,7 @@ pub fn program_flash(
     ensures value { result ≡ length (flash_stores start end bytes.now flash.old) }
     ensures flash_after { flash.new ≡ store_all (flash_stores start end bytes.now flash.old) flash.old }
 {
-    if !is_programmable(FLASH_SIZE, start.0 as usize, end.0 as usize, bytes, flash) {
+    if !is_programmable(FLASH_SIZE, start.0, end.0, bytes, flash) {
         return 0;
     }
     program_pages(flash, start, bytes)
@@ -137,9 +122,8 @@ pub fn program_eeprom(
     ensures value { result ≡ programmable eeprom_size start.0 end.0 bytes.now eeprom.old }
     ensures eeprom_after { eeprom.new ≡ eeprom_after start end bytes.now eeprom.old }
 {
-    let first = start.0 as usize;
-    if !is_programmable(EEPROM_SIZE, first, end.0 as usize, bytes, eeprom) {
+    if !is_programmable(EEPROM_SIZE, start.0, end.0, bytes, eeprom) {
         return false;
     }
-    words::lay(eeprom, first, bytes)
+    words::lay(eeprom, usize::from(start.0), bytes)
 }

@@ -1,6 +1,6 @@
 -- `memory::erase::erase_chip` meets its contract: 256 pages of FFh are a blank flash.
 -- Assumes nothing.
-use Rattle.std.proofs.Common.{◌≡◌, ℕ, ◌∙◌, length, replicate, List, sym}
+use Rattle.std.proofs.Common.{◌≡◌, ℕ, ◌∙◌, length, replicate, List, sym, arith}
 use lib.ListN.{length-replicate}
 use borrow.Author.Tests.{eq-eqb, ne_eqb}
 use Rattle.words.specs.Words.{overlay}
@@ -9,6 +9,7 @@ use Rattle.memory.specs.Memory.{flash_size, flash_pages, blank_flash}
 use Rattle.memory.specs.Pages.{store_all}
 use Rattle.memory.specs.Erase.{chip_erase}
 use Rattle.memory.proofs.PagesLaws.{store_all_chip_stores, length_chip_stores}
+use Rattle.memory.proofs.EraseLaws.{length_pages_erase, store_all_pages_erase}
 use Rattle.memory.proofs.erase.erase_chip.Goals as goal
 
 none_erased : (m : List ℕ) → (length m ≡ flash_size → ⊥) → 0 ≡ length (chip_erase m)
@@ -36,7 +37,11 @@ pub returns-then-flash-ne-FLASH_SIZE-clause-flash_after : goal.returns-then-flas
 returns-then-flash-ne-FLASH_SIZE-clause-flash_after c = not_erased _ c.if-flash-ne-FLASH_SIZE.true
 
 pub returns-clause-value : goal.returns-clause-value
-returns-clause-value c = count_erased _ _ c.if-flash-ne-FLASH_SIZE.false c.erase_pages.ensures.value
+returns-clause-value c =
+    let n = c.erase_from.ensures.value ∙ length_pages_erase _ _ _ (omega arith) (omega arith) in
+    count_erased _ _ c.if-flash-ne-FLASH_SIZE.false n
 
 pub returns-clause-flash_after : goal.returns-clause-flash_after
-returns-clause-flash_after c = erased _ _ c.if-flash-ne-FLASH_SIZE.false c.erase_pages.ensures.flash_after
+returns-clause-flash_after c =
+    let after = c.erase_from.ensures.flash_after ∙ store_all_pages_erase _ _ _ (omega arith) (omega arith) in
+    erased _ _ c.if-flash-ne-FLASH_SIZE.false after

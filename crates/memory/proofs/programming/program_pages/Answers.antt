@@ -59,7 +59,8 @@ module _ (a : ℕ) (d m₀ : List ℕ) (h : ℕ) (any : 0 < length d) (fits : a 
 pub returns-clause-flash_after : goal.returns-clause-flash_after
 returns-clause-flash_after c =
     all_laid
-    c.args.start.0 c.args.bytes.now c.args.flash.now c.min-head.result
+    c.from-first.result c.args.bytes.now c.args.flash.now c.min-head.result
     (omega arith) (omega arith) c.min-head.ensures
     _ _ _ _
-    c.page_after.ensures c.store_part-front.ensures.flash_after c.store_pages-whole.ensures.flash_after c.store_part-back.ensures.flash_after
+    c.page_after.ensures c.store_part-front.ensures.flash_after c.store_pages.ensures c.store_part-back.ensures.flash_after
+    ∙ ap (λ a. overlay a c.args.bytes.now c.args.flash.now) c.from-first.ensures

@@ -8,20 +8,14 @@ use Rattle.memory.proofs.PagesLaws.{stored_more}
 use Rattle.memory.proofs.programming.store_pages.Goals as goal
 
 -- the next page's bytes
-next_page : (from pages : ℕ) (d : List ℕ) → take page_size (drop (from + page_size * pages) d) ≡ page_of pages (drop from d)
-next_page from pages d = ap (take page_size) (sym (drop-drop (page_size * pages) from d))
+next_page : (from n : ℕ) (d : List ℕ) → take page_size (drop (from + page_size * n) d) ≡ page_of n (drop from d)
+next_page from n d = ap (take page_size) (sym (drop-drop (page_size * n) from d))
 
 enough : (from count : ℕ) (d : List ℕ) → from + page_size * count ≤ length d → page_size * count ≤ length (drop from d)
 enough from count d h = simp length-drop (omega arith)
 
-pub loop-pages-preserved : goal.loop-pages-preserved
-loop-pages-preserved c =
+pub loop-n-preserved : goal.loop-n-preserved
+loop-n-preserved c =
     let room = enough c.args.from c.args.count c.args.bytes.now (omega arith) in
-    let its = next_page c.args.from c.loop-pages.pages c.args.bytes.now in
-    stored_more
-    _ _ _ _ _ _
-    c.loop-pages.invariant c.loop-pages-test.true (omega arith) room
-    _ _
-    c.page_after.ensures its
-    _ _
-    c.store_whole-pages.ensures.value c.store_whole-pages.ensures.flash_after
+    let its = next_page c.args.from c.loop-n.n c.args.bytes.now in
+    stored_more _ _ _ _ _ _ c.loop-n.invariant c.loop-n-test.true (omega arith) room _ _ c.page_after.ensures its _ c.store_whole.ensures

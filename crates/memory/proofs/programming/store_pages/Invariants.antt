@@ -1,11 +1,8 @@
--- `memory::programming::store_pages`: the pages counted so far hold their bytes.
+-- `memory::programming::store_pages`: the pages so far hold their bytes, and what is held is a page.
 -- Assumes nothing.
-use Rattle.std.proofs.Common.{drop, ◌-◌}
+use Rattle.std.proofs.Common.{drop}
 use Rattle.memory.proofs.PagesLaws.{Stored}
 use Rattle.memory.proofs.programming.store_pages.Given as goal
 
-abbrev pub invariant-loop-pages : goal.invariant-loop-pages
-invariant-loop-pages l = Stored l.first.0 l.count (drop l.from l.bytes) l.fn.flash l.flash l.pages
-
-abbrev pub decreases-loop-pages : goal.decreases-loop-pages
-decreases-loop-pages l = l.count - l.pages
+abbrev pub invariant-loop-n : goal.invariant-loop-n
+invariant-loop-n l = Stored l.first.0 l.count (drop l.from l.bytes) l.fn.flash l.flash l.n
