@@ -24,6 +24,7 @@ const VALUES: [u8; 256] = [
 ];
 
 // The table: at each place the value of that character. Who looks up many makes one copy for all of them.
+// Stays: by value, so that its one permitted answer is the whole table; of a reference no clause says where it leads.
 pub fn digit_table() -> [u8; 256]
     ensures { result ≡ tabled digit_value 0 characters }
 {

@@ -1,7 +1,6 @@
 // Pairs of digits, read as bytes.
 ghost use Rattle.std.specs.Prelude.{◌≡◌, suc, ◌*◌, ◌≤◌, length};
-ghost use Rattle.record.specs.Digits.{characters as character_codes, tabled};
-ghost use Rattle.record.specs.Digits.{digit_value};
+ghost use Rattle.record.specs.Digits.{characters as character_codes, digit_value, tabled};
 ghost use Rattle.record.specs.Reader.{Held, digit_read, pairs_read};
 
 use digits::{NO_DIGIT, digit_table};
@@ -27,6 +26,7 @@ pub(crate) fn read_pairs(characters: &[u8], count: usize, held: &mut [u8]) -> Op
     let (pairs, _) = characters[1..].as_chunks::<2>();
     for (i, &[high, low]) in pairs.iter().enumerate() {
         let byte = digit_of(&values, high)? * 16 + digit_of(&values, low)?;
+        // Stays: by its index, as a proof knows no element that was stored through an `iter_mut` in a zip.
         held[i] = byte;
         total = total.wrapping_add(byte);
     }

@@ -52,7 +52,7 @@ overflow_add-byte c =
 pub loop-i-preserved : goal.loop-i-preserved
 loop-i-preserved c =
     let is = pair_is c.args.characters.now c.args.held.now c.args.count c.requires c.as_chunks.result.0.now c.as_chunks.ensures.front
-      c.loop-i.held c.loop-i.i c.loop-i.total c.loop-i.invariant c.loop-i-test.true c.as_chunks.ensures.front_len in
+    c.loop-i.held c.loop-i.i c.loop-i.total c.loop-i.invariant c.loop-i-test.true c.as_chunks.ensures.front_len in
     going_more c.args.characters.now c.args.held.now c.args.count c.requires c.as_chunks.result.0.now c.as_chunks.ensures.front
-      c.loop-i.held c.loop-i.i c.loop-i.total c.loop-i.invariant c.loop-i-test.true c.as_chunks.ensures.front_len _ _ _
+    c.loop-i.held c.loop-i.i c.loop-i.total c.loop-i.invariant c.loop-i-test.true c.as_chunks.ensures.front_len _ _ _
     (digit_was _ _ (rw is at c.in_ok-digit_of.ensures)) (digit_was _ _ (rw is at c.in_ok-byte.ensures)) refl

@@ -15,8 +15,8 @@ returns-then-characters-n c =
     let characters = c.args.characters.now in
     let room = c.args.room.now in
     let a : Answer characters room (Err BadRecord) room = elim c.then-characters-n.branch [
-      then-characters-n-via-then-characters-n w ↦ refused characters room (wrong_count characters _ c.data_count-n.ensures w.if-characters-n.true) |
-      then-characters-n-via-else-characters-n+then-characters-ne-MARK w ↦ refused characters room (wrong_mark characters w.if-characters-ne-MARK.true)
+      | then-characters-n-via-then-characters-n w ↦ refused characters room (wrong_count characters _ c.data_count-n.ensures w.if-characters-n.true)
+      | then-characters-n-via-else-characters-n+then-characters-ne-MARK w ↦ refused characters room (wrong_mark characters w.if-characters-ne-MARK.true)
     ] in
     record { value = a.0; room_after = a.1 }
 
