@@ -135,7 +135,8 @@ module _ (file : List ℕ) (at end : ℕ) where
       let o = fits w.0 in
       record { not_beyond = w.0; sized = w.1; head_fits = o.0; value_fits = omega (arith, w.1, o.1) }
 
-  pub within_or : (o : Option ℕ) (w : Result ℕ Refusal) (e : Refusal) (size : ℕ) → o ≡ reach_of file at end → w ≡ ok_or o e → w ≡ Ok size → Inside file at end size
+  pub within_or : (o : Option ℕ) (w : Result ℕ Refusal) (e : Refusal) (size : ℕ) → o ≡ reach_of file at end → w ≡ ok_or o e → w ≡ Ok size
+      → Inside file at end size
   within_or o w e size r v q = within o size r (a_size o e size (sym v ∙ q))
 
 -- ---- the verdict on a field

@@ -11,7 +11,8 @@ use lib.Dec.{eqb, leb, ltb}
 use lib.ListN.{length}
 use borrow.Author.Tests.{lt-ltb, le-ltb}
 use Rattle.words.specs.Words.{among}
-use Rattle.job.specs.Field.{tag_at, length_at, value_at, end_at, request_tag, group_tag, note_tag, setup_size, most_note, most_depth, Cause, Unlisted, TooDeep, ShortRequest, LongNote, TooLong, cause_number, beyond, tag_refusal}
+use Rattle.job.specs.Field.{tag_at, length_at, value_at, end_at, request_tag, group_tag, note_tag, setup_size, most_note, most_depth, beyond, tag_refusal}
+use Rattle.job.specs.Field.{Cause, Unlisted, TooDeep, ShortRequest, LongNote, TooLong, cause_number}
 use Rattle.job.specs.Verdict.{Verdict, refused, verdict_number, verdict_place, and_then, field_verdict, fields_verdict, verdict}
 use Rattle.job.specs.Requests.{Span}
 use Rattle.job.specs.Walk.{walk, first_met}
