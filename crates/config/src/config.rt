@@ -3,7 +3,7 @@ ghost use Rattle.std.specs.Prelude.{◌≡◌};
 ghost use Rattle.config.specs.Config.{delivered_config, readable, writable, byte_read, with_byte, with_hsb, erased_config};
 
 // The seven bytes of index 00h to 06h in their order, and HSB.
-#[derive(Clone, Copy)]
+#[derive(Clone, Copy, Debug, PartialEq, Eq)]
 pub struct Config {
     pub bsb: u8,
     pub sbv: u8,

@@ -15,6 +15,7 @@ use requests::{abort, clr_status, quiet, request_of, stall};
 use rules::{Answer, Outcome, Request, Session};
 
 // A request that is not refused.
+// Stays: the sizes are a `requires`. Arrays cut out of what is lent would be asked their sizes again, and the reply put together anew.
 fn respond(
     session: Session,
     config: Config,

@@ -3,7 +3,7 @@ use crate::session::{Session, StartKind};
 use config::Config;
 use memory::FlashAddress;
 
-#[derive(Clone, Copy)]
+#[derive(Clone, Copy, Debug, PartialEq, Eq)]
 pub enum Outcome {
     // Also where an error status is set.
     Done,
@@ -14,7 +14,7 @@ pub enum Outcome {
 }
 
 // The outcome, session and configuration after it, how many bytes of the reply are sent, and how many pages were stored.
-#[derive(Clone, Copy)]
+#[derive(Clone, Copy, Debug, PartialEq, Eq)]
 pub struct Answer {
     pub outcome: Outcome,
     pub session: Session,
