@@ -106,6 +106,6 @@ reader_order = record {
   bad_length_lem = λ d k f a l. rw (f, (address_told k).passes a, l);
   taken = λ d k f a l. rw (f, (address_told k).passes a, l);
   taken_00h = λ k p. refl;
-  stall_0fh = refl;
-  address_08h = refl;
+  stall_0fh = (refl, refl);
+  address_08h = (refl, refl);
 }

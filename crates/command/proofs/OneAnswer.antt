@@ -19,8 +19,8 @@ of_past_flash κs a r r' s s' p q = one p q
 pub of_bad_address : (κs : _) (a : _) (r r' : _) (s s' : _) → bad_address.Post κs a r s → bad_address.Post κs a r' s' → r ≡ r'
 of_bad_address κs a r r' s s' p q = one p q
 
-pub of_number : (κs : _) (a : _) (r r' : _) (s s' : _) → number.Post κs a r s → number.Post κs a r' s' → r ≡ r'
-of_number κs a r r' s s' p q = one p q
+pub of_fault_number : (κs : _) (a : _) (r r' : _) (s s' : _) → number.Post κs a r s → number.Post κs a r' s' → r ≡ r'
+of_fault_number κs a r r' s s' p q = one p q
 
 pub of_range_count : (κs : _) (a : _) (r r' : _) (s s' : _) → range_count.Post κs a r s → range_count.Post κs a r' s' → r ≡ r'
 of_range_count κs a r r' s s' p q = one p.0 q.0

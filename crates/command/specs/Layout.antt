@@ -5,7 +5,7 @@ use Rattle.memory.specs.declared.address.FlashAddress.{FlashAddress}
 use Rattle.memory.specs.declared.address.EepromAddress.{EepromAddress}
 use Rattle.command.specs.Form.{form, Command, ProgramFlash, ProgramEeprom}
 use Rattle.command.specs.Transfer.{laid, filler_size, suffix_size, padding, body_place, transfer_of, body_of, suffix_of, bad_length}
-use Rattle.command.specs.Reader.{Parts, Stall, BadAddress, parts_of, read_command, reading_status}
+use Rattle.command.specs.Reader.{Parts, Stall, BadAddress, parts_of, read_command, fault_number, reading_status}
 use Rattle.command.specs.Ranges.{AddressRight}
 
 -- the commands that program, with their first address and their last
@@ -59,5 +59,5 @@ pub record ReaderOrder : Type 0 where
   pub taken : (d : List ℕ) (k : Command) → form d ≡ Some k → AddressRight k → bad_length k d ≡ false → read_command d ≡ Ok (k, parts_of k d)
   -- "status 00h", "stall", "08h"
   pub taken_00h : (k : Command) (p : Parts) → reading_status (Ok (k, p)) ≡ 0x00
-  pub stall_0fh : reading_status (Err Stall) ≡ 0x0F
-  pub address_08h : reading_status (Err BadAddress) ≡ 0x08
+  pub stall_0fh : (fault_number Stall ≡ 0x0F) × (reading_status (Err Stall) ≡ 0x0F)
+  pub address_08h : (fault_number BadAddress ≡ 0x08) × (reading_status (Err BadAddress) ≡ 0x08)

@@ -187,11 +187,11 @@ frames = record {
   no_room = no_room;
   enough_room = enough_room;
   taken_0 = λ f. refl;
-  wrong_1 = refl;
-  refused_17 = refl;
-  refused_9 = refl;
+  wrong_1 = (refl, refl);
+  refused_17 = (refl, refl);
+  refused_9 = (refl, refl);
   wrote_0 = λ n. (refl, refl);
-  unwritten_17 = refl;
-  unwritten_9 = refl;
+  unwritten_17 = (refl, refl);
+  unwritten_9 = (refl, refl);
   unwritten_0 = λ e. refl;
 }

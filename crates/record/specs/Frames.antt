@@ -5,8 +5,9 @@ use Rattle.words.specs.Words.{byte_at}
 use Rattle.lines.specs.Text.{ascii}
 use Rattle.record.specs.Digits.{no_digit, digit_value, is_digit, all_digits, characters, tabled}
 use Rattle.record.specs.Record.{sum, bytes_of, record_of, data_of}
-use Rattle.record.specs.Reader.{Fields, WrongChecksum, BadRecord, TooShort, length_field, well_formed, reading, read_record, room_read, reading_number}
-use Rattle.record.specs.Writer.{write_record, room_written, written_number, written_count}
+use Rattle.record.specs.Reader.{Fields, WrongChecksum, BadRecord, TooShort, length_field, well_formed, reading, read_record, room_read}
+use Rattle.record.specs.Reader.{read_error_number, reading_number}
+use Rattle.record.specs.Writer.{write_record, room_written, write_error_number, written_number, written_count}
 use Rattle.record.specs.declared.writer.WriteError.{WriteError}
 use Rattle.record.specs.declared.writer.WriteError.TheVariants as W
 use Rattle.record.specs.RoundTrip.{fields}
@@ -80,10 +81,10 @@ pub record Frames : Type 0 where
       × (room_written offset kind d room ≡ record_of offset kind d ++ drop (11 + 2 * length d) room)
   -- the number of each answer: 0 where nothing is refused, 1 for `X`, and else the refusal's
   pub taken_0 : (f : Fields) → reading_number (Ok f) ≡ 0
-  pub wrong_1 : reading_number (Err WrongChecksum) ≡ 1
-  pub refused_17 : reading_number (Err BadRecord) ≡ 17
-  pub refused_9 : reading_number (Err TooShort) ≡ 9
+  pub wrong_1 : (read_error_number WrongChecksum ≡ 1) × (reading_number (Err WrongChecksum) ≡ 1)
+  pub refused_17 : (read_error_number BadRecord ≡ 17) × (reading_number (Err BadRecord) ≡ 17)
+  pub refused_9 : (read_error_number TooShort ≡ 9) × (reading_number (Err TooShort) ≡ 9)
   pub wrote_0 : (n : ℕ) → (written_number (Ok n) ≡ 0) × (written_count (Ok n) ≡ n)
-  pub unwritten_17 : written_number (Err W.BadRecord) ≡ 17
-  pub unwritten_9 : written_number (Err W.TooShort) ≡ 9
+  pub unwritten_17 : (write_error_number W.BadRecord ≡ 17) × (written_number (Err W.BadRecord) ≡ 17)
+  pub unwritten_9 : (write_error_number W.TooShort ≡ 9) × (written_number (Err W.TooShort) ≡ 9)
   pub unwritten_0 : (e : WriteError) → written_count (Err e) ≡ 0
