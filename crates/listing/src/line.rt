@@ -26,16 +26,11 @@ pub(crate) fn without_return(file: &[u8], at: usize, end: usize) -> usize
     ensures value { result ≡ without_return file.now at end }
     ensures lower_bound { (at ≤ result) × (result ≤ end) }
 {
-    if end == at {
-        return end;
+    if at < end && end < file.len() && file[end - 1] == RETURN {
+        end - 1
+    } else {
+        end
     }
-    if end == file.len() {
-        return end;
-    }
-    if file[end - 1] != RETURN {
-        return end;
-    }
-    end - 1
 }
 
 // Whether these characters are a record: there are some, and they are no note.
@@ -43,10 +38,7 @@ pub(crate) fn is_record(file: &[u8], at: usize, end: usize) -> bool
     requires { end ≤ length file.now }
     ensures { result ≡ is_record file.now at end }
 {
-    if end <= at {
-        return false;
-    }
-    file[at] != NOTE
+    at < end && file[at] != NOTE
 }
 
 // Whether the first line is exactly `#erased`, so that the file is for a board after a full chip erase.

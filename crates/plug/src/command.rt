@@ -55,7 +55,7 @@ pub enum Byte {
 }
 
 // A command, as the tables of document 002 have it. The bytes of a program record stand beside it, in the record's data.
-#[derive(Clone, Copy)]
+#[derive(Clone, Copy, Debug, PartialEq, Eq)]
 pub enum Command {
     Program(FlashAddress),
     Display(FlashAddress, FlashAddress),

@@ -16,25 +16,16 @@ use replies::{DONE_SIZE, done, no_room, quiet, say, say_address, say_display, sa
 // "block0 (From 0000h to 1FFFh)" to "block3 (From 8000h to FFFFh)", and all of them.
 const FLASH_PAGES: usize = 512;
 
-fn block_page(block: Block) -> Page
-    ensures { result ≡ first_page_of block }
+// The first page of a block, and how many it has.
+fn block_pages(block: Block) -> (Page, usize)
+    ensures first { result.0 ≡ first_page_of block }
+    ensures count { result.1 ≡ page_count_of block }
 {
     match block {
-        Block::Block0 => Page(0),
-        Block::Block1 => Page(64),
-        Block::Block2 => Page(128),
-        Block::Block3 => Page(256),
-    }
-}
-
-fn block_pages(block: Block) -> usize
-    ensures { result ≡ page_count_of block }
-{
-    match block {
-        Block::Block0 => 64,
-        Block::Block1 => 64,
-        Block::Block2 => 128,
-        Block::Block3 => 256,
+        Block::Block0 => (Page(0), 64),
+        Block::Block1 => (Page(64), 64),
+        Block::Block2 => (Page(128), 128),
+        Block::Block3 => (Page(256), 256),
     }
 }
 
@@ -64,7 +55,8 @@ fn erase_block(config: Config, block: Block, flash: &mut [u8], room: &mut [u8]) 
     if room.len() < DONE_SIZE {
         return no_room(config);
     }
-    let pages = memory::erase_from(flash, block_page(block), block_pages(block));
+    let (first, count) = block_pages(block);
+    let pages = memory::erase_from(flash, first, count);
     done(config, pages, room)
 }
 

@@ -50,9 +50,7 @@ fn put_address(address: FlashAddress, room: &mut [u8], at: usize) -> usize
     requires { at + 5 ≤ length room.old }
     ensures { Stands at (hex_address address.0 ++ ascii "\n") room.old result room.new }
 {
-    let high = (address.0 / 256) as u8;
-    let low = (address.0 % 256) as u8;
-    let end = hex_text(&[high, low], room, at).unwrap();
+    let end = hex_text(&address.0.to_be_bytes(), room, at).unwrap();
     plain_text(b"\n", room, end).unwrap()
 }
 

@@ -152,13 +152,7 @@ pub fn form_of(kind: u8, offset: u16, sent: &[u8]) -> Option<Command>
 fn bad_program(start: FlashAddress, n: usize) -> bool
     ensures { result ≡ is_bad_range (Command.Program start) n }
 {
-    if n < 1 {
-        return true;
-    }
-    if MOST_PROGRAM < n {
-        return true;
-    }
-    FLASH_SIZE < (start.0 as usize) + n
+    n < 1 || MOST_PROGRAM < n || FLASH_SIZE < usize::from(start.0) + n
 }
 
 // Whether a range is backward or goes past FFFFh, of a record with n bytes of data.

@@ -62,8 +62,8 @@ pub fn say_display(
     ensures { let said = displayed config start.0 end.0 flash.now in
         Replied (in_room config (length room.old) said) result room.new room.old }
 {
-    let first = start.0 as usize;
-    let past = (end.0 as usize) + 1;
+    let first = usize::from(start.0);
+    let past = usize::from(end.0) + 1;
     if flash.len() != FLASH_SIZE {
         return quiet(config, Outcome::Refused(WRONG_FLASH));
     }

@@ -34,11 +34,11 @@ put_lines-length-requires-clause-flash_in_bounds c =
     let a = c.args in
     let last : a.end.0 + 1 - 1 ≡ a.end.0 = omega arith in
     let size = length_display a.start.0 a.end.0 a.flash.now (omega arith) in
-    rw last (omega (arith, size, c.if-room-size.false))
+    rw (c.from-first.ensures, c.from-past.ensures, last) (omega (arith, size, c.if-room-size.false))
 
 pub returns : goal.returns
 returns c =
     let a = c.args in
     let last : a.end.0 + 1 - 1 ≡ a.end.0 = omega arith in
     rw (forward a.config a.start.0 a.end.0 a.flash.now c.if-flash-ne-FLASH_SIZE.false (omega arith))
-    (rw c.answered.ensures (stands_said _ _ _ _ _ (rw last at c.put_lines-length.ensures)))
+    (rw c.answered.ensures (stands_said _ _ _ _ _ (rw (c.from-first.ensures, c.from-past.ensures, last) at c.put_lines-length.ensures)))
