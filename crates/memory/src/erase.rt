@@ -9,7 +9,7 @@ use crate::address::{Block, Page};
 use crate::page::{page_after, store_whole};
 use crate::{FLASH_PAGES, FLASH_SIZE, MOST_FLASH, PAGE_SIZE};
 
-// Stores pages of FFh, so many from a first one on.
+// Stores pages of FFh, so many from a first one on. Stays apart from `store_pages`: there is one page of FFh, and no bytes of that length.
 fn erase_pages(flash: &mut [u8], first: Page, count: usize)
     requires { (page_size * (first.0 + count) ≤ length flash.old) × (length flash.old ≤ most_flash) }
     ensures { flash.new ≡ overlay (page_size * first.0) (replicate (page_size * count) 0xFF) flash.old }

@@ -83,6 +83,8 @@ pub fn store_bytes(flash: &mut [u8], start: FlashAddress, bytes: &[u8]) -> usize
     program_pages(flash, start, bytes)
 }
 
+// Stays: programming flash and EEPROM are two operations, each with its own kind of address; what they share is this test.
+//
 // Whether a memory has the size that it should have, the range is forward and inside it, and the bytes are as many as the range
 // has: the one test for both memories.
 fn is_programmable(size: usize, first: u16, last: u16, bytes: &[u8], memory: &[u8]) -> bool
