@@ -8,8 +8,9 @@ use native.Mathlib.Omega.{arith}
 use lib.ListN.{length, take, length-append, length-replicate}
 use lib.Seq.{length-take-le}
 use borrow.Author.Tests.{lt-ltb, le-ltb}
+use Rattle.std.proofs.lemmas.List.{take-replicate}
 use Rattle.words.specs.Words.{laid}
-use Rattle.words.proofs.WordsLaws.{overlay_none, lay_after, take_replicate}
+use Rattle.words.proofs.WordsLaws.{overlay_none, lay_after}
 use Rattle.writer.specs.Writer.{Head, Tail, Put, TooShort, zeros, put_bytes, put_answer, put_room}
 use Rattle.writer.proofs.write.put.Goals as goal
 
@@ -51,7 +52,7 @@ module _ (h : Head) (t : Tail) (d s room : List ℕ) (p : Put h t d s) where
       let w : List ℕ = take t.suffix s in
       let e₁ = lay_after [] x room room m₁ 0 refl (omega (arith, head_length)) (sym (overlay_none 0 room)) q₁ in
       let e₂ = lay_after x y room m₁ m₂ h.size (sym head_length) (omega (arith, head_length, zeros_length)) e₁
-      (q₂ ∙ ap (λ l. laid h.size l m₁) (take_replicate t.zeros 57 _ p.zeros_fit)) in
+      (q₂ ∙ ap (λ l. laid h.size l m₁) (take-replicate t.zeros 57 _ p.zeros_fit)) in
       let lxy : length (x ++ y) ≡ h.size + t.zeros = simp (length-append, head_length, zeros_length) in
       let e₃ = lay_after (x ++ y) z room m₂ m₃ (h.size + t.zeros) (sym lxy) (omega (arith, lxy, body_length)) e₂ q₃ in
       let lxyz : length (x ++ y ++ z) ≡ h.size + t.zeros + t.body = simp (length-append, head_length, zeros_length, body_length) in
