@@ -17,7 +17,8 @@ unwrap-end-requires c =
     let pre = c.requires in
     let hex = c.hex_text.ensures in
     let digits = address_bytes c.args.from _ (omega (arith, c.requires.from_lt_to)) c.to_be_bytes.ensures in
-    let address = put_there _ _ (hex_address c.args.from) _ _ _ (rw digits at hex.value) (rw digits at hex.room_after) c.unwrap-equals.ensures (omega (arith, pre.from_in_bounds)) in
+    let address = put_there _ _ (hex_address c.args.from) _ _ _ (rw digits at hex.value) (rw digits at hex.room_after) c.unwrap-equals.ensures
+    (omega (arith, pre.from_in_bounds)) in
     put_fits _ _ _ _ c.hex_text-2.ensures.value
     (bytes_fit _ _ _ _ _ _ _ _ pre.from_lt_to.0 pre.from_lt_to.1 pre.from_in_bounds address c.lay.ensures.memory_after)
 
@@ -35,7 +36,8 @@ overflow_add-result c =
     let hex = c.hex_text.ensures in
     let digits = address_bytes c.args.from _ (omega (arith, c.requires.from_lt_to)) c.to_be_bytes.ensures in
     let more = c.hex_text-2.ensures in
-    let address = put_there _ _ (hex_address c.args.from) _ _ _ (rw digits at hex.value) (rw digits at hex.room_after) c.unwrap-equals.ensures (omega (arith, pre.from_in_bounds)) in
+    let address = put_there _ _ (hex_address c.args.from) _ _ _ (rw digits at hex.value) (rw digits at hex.room_after) c.unwrap-equals.ensures
+    (omega (arith, pre.from_in_bounds)) in
     let fit = bytes_fit _ _ _ _ _ _ _ _ pre.from_lt_to.0 pre.from_lt_to.1 pre.from_in_bounds address c.lay.ensures.memory_after in
     let bytes = put_there _ _ _ _ _ _ more.value more.room_after c.unwrap-end.ensures fit in
     omega (arith, address.ends, bytes.ends, bytes.within, pre.from_in_bounds)
@@ -46,7 +48,8 @@ returns c =
     let hex = c.hex_text.ensures in
     let digits = address_bytes c.args.from _ (omega (arith, c.requires.from_lt_to)) c.to_be_bytes.ensures in
     let more = c.hex_text-2.ensures in
-    let address = put_there _ _ (hex_address c.args.from) _ _ _ (rw digits at hex.value) (rw digits at hex.room_after) c.unwrap-equals.ensures (omega (arith, pre.from_in_bounds)) in
+    let address = put_there _ _ (hex_address c.args.from) _ _ _ (rw digits at hex.value) (rw digits at hex.room_after) c.unwrap-equals.ensures
+    (omega (arith, pre.from_in_bounds)) in
     let fit = bytes_fit _ _ _ _ _ _ _ _ pre.from_lt_to.0 pre.from_lt_to.1 pre.from_in_bounds address c.lay.ensures.memory_after in
     line_put _ _ _ _ _ _ _ _ pre.from_lt_to.0 pre.from_lt_to.1 pre.from_in_bounds address c.lay.ensures.memory_after _ _ _
     (put_there _ _ _ _ _ _ more.value more.room_after c.unwrap-end.ensures fit)
