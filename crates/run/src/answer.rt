@@ -18,7 +18,7 @@ const REPLY_SIZE: usize = 1024;
 // No answer is longer: the line that states the count, and 1,490 lines of requests.
 pub const MOST_OUTPUT: usize = 25 + 2139 * 1490;
 
-// "all memory FFh"
+// "all memory FFh". Stays beside blank_eeprom: the flash is known by a shut name, and not byte by byte.
 fn blank_flash() -> [u8; FLASH_SIZE]
     ensures { result ≡ blank_flash }
 {
