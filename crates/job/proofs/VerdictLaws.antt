@@ -1,6 +1,7 @@
 -- Laws of the verdict on a list of fields: how it follows from what the readers give each other, and what an accepted field is.
 -- Assumes nothing.
 use Rattle.std.specs.Prelude.{Result, Ok, Err}
+use Rattle.std.specs.Result.{result_and}
 use mathlib.Core.Path.{◌≡◌, refl, sym, ap, ◌∙◌}
 use mathlib.Core.Logic.{⊎_elim}
 use mathlib.Core.Bool.{true, false}
@@ -96,6 +97,11 @@ read_bad v r next e = rw e
 pub read_next : (v : Verdict) (next next' : ℕ) → v ≡ accepted → next' ≡ next → Ok next' ≡ read_of v next
 unfolding read_of
 read_next v next next' e f = rw (e, f)
+
+pub read_and : (v : Verdict) (next next' : ℕ) → next' ≡ next → result_and v (Ok next') ≡ read_of v next
+unfolding read_of
+read_and (Ok u) next next' f = rw f
+read_and (Err r) next next' f = refl
 
 -- a group has the verdict v on its value, whose end the code has as a sum
 pub group_held : (file : List ℕ) (at end depth size : ℕ) → Inside file at end size → tag_refusal (tag_at file at) (length_at file at) depth ≡ Ok tt

@@ -33,10 +33,10 @@ fn read_field(file: &[u8], at: usize, end: usize, depth: u8) -> Result<usize, Re
     tag_refusal(tag, size, depth).map_err(|cause| cause.at(at))?;
     let value = at + HEAD_SIZE;
     let next = value + size;
-    if tag == GROUP {
-        read_fields(file, value, next, depth + 1)?;
+    if tag != GROUP {
+        return Ok(next);
     }
-    Ok(next)
+    read_fields(file, value, next, depth + 1).and(Ok(next))
 }
 
 // The verdict on a file of any bytes: accepted, or why not.

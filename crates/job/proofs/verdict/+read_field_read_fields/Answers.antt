@@ -4,9 +4,8 @@
 use Rattle.std.proofs.Common.{◌≡◌, ℕ, List, Ok, sym, ◌∙◌, arith, rules}
 use Rattle.std.proofs.lemmas.Result.{err_from_is_err_and}
 use Rattle.job.specs.Field.{tag_at, length_at, tag_refusal}
-use Rattle.job.specs.Read.{read_of}
 use Rattle.job.proofs.FieldLaws.{Inside, went_beyond, within_or, no_size, tag_refused, tag_passed, field_beyond, field_bad, field_single, group_depth}
-use Rattle.job.proofs.VerdictLaws.{fields_none, fields_bad, fields_next, next_bounds, read_bad, read_next, group_held}
+use Rattle.job.proofs.VerdictLaws.{fields_none, fields_bad, fields_next, next_bounds, read_bad, read_next, read_and, group_held}
 use Rattle.job.proofs.verdict.+read_field_read_fields.Goals as goal
 
 pub read_field-returns-in_err-size : goal.read_field-returns-in_err-size
@@ -42,31 +41,21 @@ pub read_field-read_fields-requires : goal.read_field-read_fields-requires
 read_field-read_fields-requires t c =
     let i = within_or _ _ _ _ _ _ _ c.reach_of.ensures c.ok_or.ensures.value c.in_ok-size.was in
     let q = tag_passed _ c.tag_refusal.result c.map_err.result c.map_err.ensures.cases _ c.in_ok-map_err.was in
-    let d = group_depth _ _ (rw c.if-tag-eq-GROUP.true at (sym c.tag_refusal.ensures ∙ q)) in
+    let d = group_depth _ _ (rw c.if-tag-ne-GROUP.false at (sym c.tag_refusal.ensures ∙ q)) in
     (omega (arith, i.value_fits, d), (omega arith, omega (arith, i.value_fits), omega (arith, d)))
 
-pub read_field-returns-in_err-read_fields : goal.read_field-returns-in_err-read_fields
-unfolding read_of
-read_field-returns-in_err-read_fields t c n h =
-    let p = err_from_is_err_and c.from_residual-in_err-read_fields.result c.from_residual-in_err-read_fields.ensures.1 in
+pub read_field-returns : goal.read_field-returns
+read_field-returns t c n h =
     let i = within_or _ _ _ _ _ _ _ c.reach_of.ensures c.ok_or.ensures.value c.in_ok-size.was in
     let q = tag_passed _ c.tag_refusal.result c.map_err.result c.map_err.ensures.cases _ c.in_ok-map_err.was in
-    let v = group_held _ _ _ _ _ i (passed _ _ _ _ _ i (sym c.tag_refusal.ensures ∙ q)) c.if-tag-eq-GROUP.true _ c.read_fields.ensures n h in
-    rw (p.1, p.2, v, c.in_err-read_fields.was)
+    let v = group_held _ _ _ _ _ i (passed _ _ _ _ _ i (sym c.tag_refusal.ensures ∙ q)) c.if-tag-ne-GROUP.false _ c.read_fields.ensures n h in
+    rw v (c.and.ensures ∙ read_and c.read_fields.result _ _ (omega (arith, i.sized)))
 
-pub read_field-returns-in_ok-read_fields : goal.read_field-returns-in_ok-read_fields
-unfolding read_of
-read_field-returns-in_ok-read_fields t c n h =
+pub read_field-returns-then-tag-ne-GROUP : goal.read_field-returns-then-tag-ne-GROUP
+read_field-returns-then-tag-ne-GROUP t c n h =
     let i = within_or _ _ _ _ _ _ _ c.reach_of.ensures c.ok_or.ensures.value c.in_ok-size.was in
     let q = tag_passed _ c.tag_refusal.result c.map_err.result c.map_err.ensures.cases _ c.in_ok-map_err.was in
-    let v = group_held _ _ _ _ _ i (passed _ _ _ _ _ i (sym c.tag_refusal.ensures ∙ q)) c.if-tag-eq-GROUP.true _ c.read_fields.ensures n h in
-    rw (v, c.in_ok-read_fields.was, i.sized)
-
-pub read_field-returns-else-tag-eq-GROUP : goal.read_field-returns-else-tag-eq-GROUP
-read_field-returns-else-tag-eq-GROUP t c n h =
-    let i = within_or _ _ _ _ _ _ _ c.reach_of.ensures c.ok_or.ensures.value c.in_ok-size.was in
-    let q = tag_passed _ c.tag_refusal.result c.map_err.result c.map_err.ensures.cases _ c.in_ok-map_err.was in
-    read_next _ _ _ (field_single _ _ _ _ _ i.not_beyond (passed _ _ _ _ _ i (sym c.tag_refusal.ensures ∙ q)) c.if-tag-eq-GROUP.false)
+    read_next _ _ _ (field_single _ _ _ _ _ i.not_beyond (passed _ _ _ _ _ i (sym c.tag_refusal.ensures ∙ q)) c.if-tag-ne-GROUP.true)
     (omega (arith, i.sized))
 
 pub read_fields-loop-next-init : goal.read_fields-loop-next-init
