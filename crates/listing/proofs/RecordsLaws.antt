@@ -133,7 +133,8 @@ here file at h r =
     }
 
 -- the first number bounds the bytes left
-steps_in : (n : ℕ) (file : List ℕ) (at start end : ℕ) → length file ≤ at + n → first_met (records_from file at) ≡ Some (span start end) → Steps file at start end
+steps_in : (n : ℕ) (file : List ℕ) (at start end : ℕ) → length file ≤ at + n → first_met (records_from file at) ≡ Some (span start end)
+    → Steps file at start end
 steps_in zero file at start end h f = none_met file at start end (from_none file at (omega arith)) f
 steps_in (suc n) file at start end h f =
     ⊎_elim

@@ -31,7 +31,8 @@ answered_none true k e = cc
 answered_none false k e = refl
 
 module _ (file : List ℕ) (at : ℕ) (found : Option ℕ)
-    (e : found ≡ cond (ltb (position_or_len (λ b. nat_eq b line_feed) (take (length file - at) (drop at file))) (length (take (length file - at) (drop at file))))
+    (e : found
+    ≡ cond (ltb (position_or_len (λ b. nat_eq b line_feed) (take (length file - at) (drop at file))) (length (take (length file - at) (drop at file))))
     (Some (position_or_len (λ b. nat_eq b line_feed) (take (length file - at) (drop at file)))) None) where
   abbrev place : ℕ
   place = index_of line_feed (drop at file)
