@@ -21,5 +21,6 @@ returns c =
     let b = board c.args.config c.args.flash.now in
     let k = c.args.block in
     done_stepped b (EraseBlock k) c.args.config (pages_erase (block_page k) (block_pages k) c.args.flash.now) _ c.args.room.now _ _
-    (c.done.ensures.value ∙ rw (c.erase_from-pages.ensures.value, c.block_pages-count.ensures.count, c.block_pages-count.ensures.first)) c.done.ensures.room_after
+    (c.done.ensures.value ∙ rw (c.erase_from-pages.ensures.value, c.block_pages-count.ensures.count, c.block_pages-count.ensures.first))
+    c.done.ensures.room_after
     (c.erase_from-pages.ensures.flash_after ∙ rw (c.block_pages-count.ensures.count, c.block_pages-count.ensures.first)) c.if-room-lt-DONE_SIZE.false

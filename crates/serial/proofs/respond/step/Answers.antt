@@ -38,7 +38,8 @@ returns-in-Err-WrongChecksum c =
     let a = c.args in
     let b = board a.config a.flash.now in
     let n = length a.room.now in
-    let wrong = was_read a.characters.now _ refl _ c.read_record.ensures.value (Err WrongChecksum) (c.in-Err-WrongChecksum.is ∙ ap Err c.in-Err-WrongChecksum.field-0-is) in
+    let wrong = was_read a.characters.now _ refl _ c.read_record.ensures.value (Err WrongChecksum)
+    (c.in-Err-WrongChecksum.is ∙ ap Err c.in-Err-WrongChecksum.field-0-is) in
     by_reading b a.characters.now n (Err WrongChecksum) c.if-flash-ne-FLASH_SIZE.false wrong
     (flash_stays b (told a.config wrong_checksum_text) n _ _ _ refl c.say.ensures)
 
