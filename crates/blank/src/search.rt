@@ -1,5 +1,5 @@
 // The blank search: over the pages that a range meets, and within one page.
-ghost use Rattle.std.specs.Prelude.{◌≡◌, ◌+◌, ◌≤◌, ◌<◌, MatchOption, length, get_or};
+ghost use Rattle.std.specs.Prelude.{◌≡◌, ◌+◌, ◌≤◌, ◌<◌, MatchOption, length};
 ghost use Rattle.memory.specs.Memory.{page_size};
 ghost use Rattle.blank.specs.Blank.{AllBlank, FoundAt, used_in, used_of};
 

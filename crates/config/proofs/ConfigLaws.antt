@@ -15,7 +15,7 @@ pub new_hsb_low : (v old : ℕ) → new_hsb v old % 16 ≡ old % 16
 new_hsb_low v old = omega arith
 
 -- an index that the table has not
-pub byte_read_unknown : (i : ℕ) (c : Config) → 0x06 < i → (i ≡ 0x30 → ⊥) → (i ≡ 0x31 → ⊥) → (i ≡ 0x60 → ⊥) → (i ≡ 0x61 → ⊥) → byte_read i c ≡ None
+byte_read_unknown : (i : ℕ) (c : Config) → 0x06 < i → (i ≡ 0x30 → ⊥) → (i ≡ 0x31 → ⊥) → (i ≡ 0x60 → ⊥) → (i ≡ 0x61 → ⊥) → byte_read i c ≡ None
 unfolding byte_read
 byte_read_unknown i c h a b d e = rw (lt-leb i 0x06 h, ne_eqb i 0x30 a, ne_eqb i 0x31 b, ne_eqb i 0x60 d, ne_eqb i 0x61 e)
 

@@ -121,14 +121,14 @@ module _ (b : Board) (d : List ℕ) where
   pub listed : Sizes b.flash b.eeprom → (k : Command) (x : Fit) → judgement d ≡ Some (k, x) → sized_fate b d ≡ fate b k d
   listed s k x q = sized_fate_lem s ∙ ap (λ o. fate_of b o d) (judged_is d k x q).0
 
-  pub unlisted : Sizes b.flash b.eeprom → judgement d ≡ None → sized_fate b d ≡ Err Stops
+  unlisted : Sizes b.flash b.eeprom → judgement d ≡ None → sized_fate b d ≡ Err Stops
   unlisted s q = sized_fate_lem s ∙ ap (λ o. fate_of b o d) (judged_unlisted d q)
 
-  pub other_flash : (length b.flash ≡ flash_size → ⊥) → sized_fate b d ≡ Err Stops
+  other_flash : (length b.flash ≡ flash_size → ⊥) → sized_fate b d ≡ Err Stops
   unfolding sized_fate
   other_flash h = rw (sized_flash b h)
 
-  pub other_eeprom : (length b.eeprom ≡ eeprom_size → ⊥) → sized_fate b d ≡ Err Stops
+  other_eeprom : (length b.eeprom ≡ eeprom_size → ⊥) → sized_fate b d ≡ Err Stops
   unfolding sized_fate
   other_eeprom h = rw (sized_eeprom b h)
 

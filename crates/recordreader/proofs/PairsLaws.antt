@@ -51,7 +51,7 @@ abbrev pub left : List ℕ → ℕ → List ℕ
 left cs i = drop (1 + 2 * i) cs
 
 -- all of them, as the code cuts them off
-abbrev pub behind : List ℕ → List ℕ
+abbrev behind : List ℕ → List ℕ
 behind cs = take (length cs - 1) (drop 1 cs)
 
 -- i pairs are read: the memory `before` holds their bytes at its front and is now `held`, and they come to `total`

@@ -7,7 +7,8 @@ use Rattle.record.specs.Reader.{Reading}
 use Rattle.record.proofs.ReaderLaws.{wrong_mark, Answer, refused}
 use Rattle.recordreader.proofs.PassedLaws.{wrong_count, wrong_digit, passed, wrong_length_lem, wrong_sum, no_room, all_read}
 use Rattle.recordreader.proofs.reader.read_record.Goals as goal
-use Rattle.recordreader.proofs.reader.read_record.Goals.{then-characters-n-via-then-characters-n, then-characters-n-via-else-characters-n+then-characters-ne-MARK}
+use Rattle.recordreader.proofs.reader.read_record.Goals.{then-characters-n-via-then-characters-n}
+use Rattle.recordreader.proofs.reader.read_record.Goals.{then-characters-n-via-else-characters-n+then-characters-ne-MARK}
 
 pub returns-then-characters-n : goal.returns-then-characters-n
 unfolding Answer
