@@ -15,6 +15,7 @@ pub fn read_full<R: Read>(input: &mut R, room: &mut [u8]) -> io::Result<usize>
     ensures bytes { IfOk result (λ n. Consumes (R.remaining input.old) (R.remaining input.new) (take n room.new)) }
     ensures end { IfOk result (λ n. n < length room.new → IsAtEnd (R.remaining input.new)) }
 {
+    // Stays: the library reads to the end into a heap, or fails where the input ends before the room does.
     let mut size = 0;
     while size < room.len() {
         let read = input.read(&mut room[size..])?;

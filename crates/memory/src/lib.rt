@@ -1,5 +1,6 @@
 // The two memories of document 01's board: reading and programming ranges of both, and the erases and the page store of flash.
 // What stores bytes or erases pages from a place on takes the flash of any board.
+// Stays: what stores or reads answers how many pages or bytes those are, 0 where it did nothing. That is their true number, and the busy count.
 //
 // No public function has a `requires`: each says what it answers for every input.
 #![tactic(auto)]

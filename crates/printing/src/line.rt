@@ -8,6 +8,8 @@ ghost use Rattle.lines.specs.Room.{put, request_size, refused_size, Stands};
 use crate::text::{digits, put_byte, put_number, put_text};
 use lines::{TooShort, Word, fits, hex_text};
 
+// Stays: bytes are printed `as usize`; with a From, tried, the sizes and texts of three lines did not close.
+
 // How many bytes of a line never vary in number: of a request's line five spaces, two hex digits and the line feed, and of the others
 // their words, spaces and the line feed.
 const REQUEST_REST: usize = 8;

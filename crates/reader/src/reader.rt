@@ -17,7 +17,7 @@ impl From<Misfit> for Fault {
     }
 }
 
-// The status of an answer.
+// The status of an answer. Stays: C is given it as a byte.
 pub fn reading_status(reading: Result<(Command, Parts), Fault>) -> u8
     ensures { result ≡ reading_status reading }
 {

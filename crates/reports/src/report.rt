@@ -6,7 +6,7 @@ ghost use Rattle.reports.specs.Report.{status_report};
 use rules::Session;
 
 // The bytes that are sent, and the session after them.
-#[derive(Clone, Copy)]
+#[derive(Clone, Copy, Debug, PartialEq, Eq)]
 pub struct Report {
     pub bytes: [u8; 6],
     pub session: Session,

@@ -23,7 +23,7 @@ use rules::{Answer, Outcome, Session};
 const SETUP_SIZE: usize = 8;
 
 // Session and configuration, the number of the next request, and the place in the room where its line begins.
-#[derive(Clone, Copy)]
+#[derive(Clone, Copy, Debug, PartialEq, Eq)]
 pub struct Progress {
     pub session: Session,
     pub config: Config,

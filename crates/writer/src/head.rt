@@ -9,7 +9,7 @@ use memory::{Block, Range};
 
 // The first so many of six bytes.
 // Stays: there is no heap, so a head of 3 to 6 bytes is an array of six and a size.
-#[derive(Clone, Copy)]
+#[derive(Clone, Copy, Debug, PartialEq, Eq)]
 pub struct Head {
     pub bytes: [u8; 6],
     pub size: usize,

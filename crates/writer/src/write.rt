@@ -26,7 +26,7 @@ impl WriteError {
     }
 }
 
-// The number of the refusal, and 0 where there is none.
+// The number of the refusal, and 0 where there is none. Stays: C is given it as a byte.
 pub fn written_number(written: Result<usize, WriteError>) -> u8
     ensures { result ≡ written_number written }
 {
@@ -45,7 +45,7 @@ pub fn written_count(written: Result<usize, WriteError>) -> usize
 
 // How much follows a command's head: zeros of filler and pad, bytes of the body, bytes of the suffix.
 // Stays: three sizes that `put` asks at once; an Option of them would be asked twice.
-#[derive(Clone, Copy)]
+#[derive(Clone, Copy, Debug, PartialEq, Eq)]
 pub struct Tail {
     pub zeros: usize,
     pub body: usize,
