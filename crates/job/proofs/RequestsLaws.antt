@@ -9,7 +9,7 @@ use lib.ListN.{length-append}
 use Rattle.job.specs.Field.{tag_at, length_at, value_at, end_at, request_tag, group_tag, beyond}
 use Rattle.job.specs.Requests.{held, requests_in, RequestsHeld}
 use Rattle.job.specs.Read.{Holds, Counts}
-use Rattle.job.proofs.FieldLaws.{by_request, by_group, by_other, Inside}
+use Rattle.job.proofs.FieldLaws.{by_request, by_group, by_other, end_beyond, Inside}
 
 pub none_beyond : (n : ℕ) (file : List ℕ) (at end : ℕ) → beyond file at end ≡ true → requests_in n file at end ≡ []
 unfolding requests_in
@@ -46,6 +46,13 @@ module _ (file : List ℕ) (at end size : ℕ) (i : Inside file at end size) (q 
       let h = holds n (omega (arith, i.value_fits, i.sized)) in
       let k = rest n (omega arith) in
       rw (first_held n file at end i.not_beyond, length-append, ← h, ← i.sized, ← k)
+
+  -- nothing stands behind the last field of what encloses it
+  pub count_last : value_at at + size ≡ end → Counts q file at end
+  count_last last n m =
+      let none = count_beyond file end end (end_beyond file end end (omega arith)) in
+      let c = count_field 0 (rw last none) n m in
+      omega (arith, c)
 
 pub requests_held : RequestsHeld
 requests_held = record {

@@ -6,25 +6,28 @@ ghost use Rattle.job.specs.Read.{Counts};
 use crate::field::{GROUP, HEAD_SIZE, REQUEST, reach_of};
 use crate::verdict::MOST_FILE;
 
-// The requests of the fields from a place up to `end`, and of those that they hold.
+// The requests of the fields from a place up to `end`: those of the first field, and those of the rest.
+// Stays: 01 lists this form for this place, a count that calls itself on the value of a group and on the rest.
 fn count_fields(file: &[u8], at: usize, end: usize) -> usize
     requires { (at ≤ end) × (end ≤ length file.now) }
     ensures counts { Counts result file.now at end }
     ensures upper_bound { result ≤ end - at }
 {
-    let mut count = 0;
-    let mut next = at;
-    while let Some(size) = reach_of(file, next, end) {
-        let value = next + HEAD_SIZE;
-        let behind = value + size;
-        count += match file[next] {
-            REQUEST => 1,
-            GROUP => count_fields(file, value, behind),
-            _ => 0,
-        };
-        next = behind;
+    let Some(size) = reach_of(file, at, end) else {
+        return 0;
+    };
+    let value = at + HEAD_SIZE;
+    let next = value + size;
+    let tag = file[at];
+    let held = match tag {
+        REQUEST => 1,
+        GROUP => count_fields(file, value, next),
+        _ => 0,
+    };
+    if next == end {
+        return held;
     }
-    count
+    held + count_fields(file, next, end)
 }
 
 // The requests of a file of any bytes; a field that goes beyond what encloses it ends them there. A file that is too long is refused
