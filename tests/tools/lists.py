@@ -15,7 +15,8 @@ FUNCTIONS = """# The functions
 Each function that has a contract: what it does, by the first sentence of the comment above it, and the definitions that its contract names.
 A contract says that the answer, and every memory that is lent to be changed, is what these definitions give. A public function can be
 called from another crate; it asks for nothing and answers every input. Of each it is proved that no second answer would pass. A function
-inside its crate may ask for something, which its callers have to prove. [PROOFS.md](PROOFS.md) says how a contract is read.
+inside its crate may ask for something, which its callers have to prove. A conversion is the language's `From`, for any input: its clause
+says what it gives. [PROOFS.md](PROOFS.md) says how a contract is read.
 
 This page is made by `tests/tools/lists.py` from crates/*/src. It is not written by hand.
 """
@@ -49,17 +50,18 @@ def named(text, clause):
 
 
 def functions(root, crate):
-    """The functions of a crate that have a contract: whether another crate can call it, and its row."""
+    """The functions of a crate that have a contract: whether it is public, inside or a conversion, and its row."""
     public = {path.split("::", 1)[1] for path, _ in callable_functions(root / "crates" / crate)}
     for file in sorted((root / "crates" / crate / "src").glob("*.rt")):
         text = file.read_text()
-        for comment, name, asks, promises in contracts.functions(text):
+        for comment, trait, owner, name, asks, promises in contracts.functions(text):
             if not promises:
                 continue
-            link = f"[`{name}()`](../crates/{crate}/src/{file.name})"
-            path = name if file.stem == "lib" else f"{file.stem}::{name}"
-            row = [link, first_sentence(comment), named(text, promises)]
-            yield path in public, row if path in public else [*row, (named(text, asks) or "yes") if asks else ""]
+            called = f"{owner}::{name}" if owner else name
+            path = called if file.stem == "lib" else f"{file.stem}::{called}"
+            kind = "conversion" if trait else "public" if path in public else "inside"
+            row = [f"[`{called}()`](../crates/{crate}/src/{file.name})", first_sentence(comment), named(text, promises)]
+            yield kind, [*row, (named(text, asks) or "yes") if asks else ""] if kind == "inside" else row
 
 
 def table(head, rows):
@@ -71,9 +73,10 @@ def functions_page(root):
     page = FUNCTIONS
     for crate in crates(root):
         rows = list(functions(root, crate))
-        public, inside = ([row for kind, row in rows if kind == wanted] for wanted in (True, False))
+        public, conversions, inside = ([row for kind, row in rows if kind == wanted] for wanted in ("public", "conversion", "inside"))
         page += f"\n## {crate}\n" if rows else ""
         page += "\n" + table(["public function", "what it does", "definitions"], public) if public else ""
+        page += "\n" + table(["conversion", "what it does", "definitions"], conversions) if conversions else ""
         page += "\n" + table(["inside the crate", "what it does", "definitions", "asks for"], inside) if inside else ""
     return page
 

@@ -79,7 +79,7 @@ class Tree:
         found = {}
         for path in sorted((self.root / "crates").glob("*/src/*.rt")):
             text = path.read_text()
-            for _, name, _, promises in contracts.functions(text):
+            for _, _, _, name, _, promises in contracts.functions(text):
                 found.setdefault(name, []).append((path.parts[-3], path, contracts.named(text, promises)))
         return found
 

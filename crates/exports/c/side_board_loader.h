@@ -268,7 +268,7 @@ uint8_t loader_check_job(
     size_t *at);
 
 /* How many requests a job holds, through all its groups; 0 of a file that is too long. Its calls inside each other take up to 262,176 bytes
- * of stack; no other function takes over 1,080. */
+ * of stack; no other function takes over 968. */
 size_t loader_count_requests(
     const uint8_t *file, size_t file_size);
 

@@ -1,6 +1,6 @@
 -- Laws of one field: how far it reaches, and its verdict by the tests that lead to it.
 -- Assumes nothing.
-use Rattle.std.specs.Prelude.{if◌then◌else◌, Option, Some, None, Result, Ok, Err, MatchResult, IsErrAnd, ok_or}
+use Rattle.std.specs.Prelude.{if◌then◌else◌, Option, Some, None, Result, Ok, Err, MatchResult, IsErrAnd}
 use Rattle.std.specs.Bool.{then_some}
 use mathlib.Core.Path.{◌≡◌, refl, sym, ◌∙◌}
 use mathlib.Core.Logic.{◌⊎◌, inl, inr, ⊎_elim}
@@ -12,7 +12,7 @@ use lib.Dec.{ltb, leb, eqb}
 use lib.ListN.{get_or}
 use borrow.Author.Tests.{le-ltb, lt-ltb, le-leb, lt-leb, eq-eqb, ne_eqb, eqb-true, eqb-false, ltb-true, ltb-false}
 use Rattle.job.specs.Field.{tag_at, length_at, value_at, end_at, request_tag, group_tag, by_tag, Cause, Beyond, beyond, tag_refusal}
-use Rattle.job.specs.Verdict.{Verdict, Refusal, accepted, refused, field_verdict}
+use Rattle.job.specs.Verdict.{Verdict, Refusal, accepted, refused, or_held, field_verdict}
 use Rattle.job.specs.Read.{reach_of}
 
 -- ---- cases on numbers
@@ -53,31 +53,13 @@ is_within : (b : Bool) (n size : ℕ) → (if b then None else Some n) ≡ Some 
 is_within true n size e = let z : ◌≡◌ {A = ℕ} 0 1 = cc in absurd (omega arith)
 is_within false n size e = (refl, cc)
 
--- what the code makes of a size that there is not, and of one that there is
-pub no_size : (o : Option ℕ) (e r : Refusal) → ok_or o e ≡ Err r → (o ≡ None) × (e ≡ r)
-no_size None e r q = (refl, cc)
-no_size (Some x) e r q = absurd (cc)
-
-a_size : (o : Option ℕ) (e : Refusal) (size : ℕ) → ok_or o e ≡ Ok size → o ≡ Some size
-a_size None e size q = absurd (cc)
-a_size (Some x) e size q = cc
-
--- what the code makes of what a tag refuses
-module _ (P : Cause → Refusal → Type 0) (o : Result (Unit {0}) Cause) (m : Result (Unit {0}) Refusal)
-    (made : MatchResult o (λ x. m ≡ Ok x) (λ c. IsErrAnd m (P c))) where
-  pub tag_refused : (r : Refusal) → m ≡ Err r → (c : Cause) × (o ≡ Err c) × P c r
-  tag_refused r f = by o made
-    where
-      by : (o : Result (Unit {0}) Cause) → MatchResult o (λ x. m ≡ Ok x) (λ c. IsErrAnd m (P c)) → (c : Cause) × (o ≡ Err c) × P c r
-      by (Ok u) e = absurd (cc)
-      by (Err c) e = (c, refl, rw f at e)
-
-  pub tag_passed : (u : Unit {0}) → m ≡ Ok u → o ≡ Ok tt
-  tag_passed u f = by o made
-    where
-      by : (o : Result (Unit {0}) Cause) → MatchResult o (λ x. m ≡ Ok x) (λ c. IsErrAnd m (P c)) → o ≡ Ok tt
-      by (Ok v) e = refl
-      by (Err c) e = absurd (rw f at e)
+-- what the code makes of a cause and the place beside it
+pub placed : (P : Cause → Refusal → Type 0) (o : Result (Unit {0}) Cause) (m : Result (Unit {0}) Refusal) (at : ℕ)
+    → ((c : Cause) (r : Refusal) → P c r → r ≡ record { cause = c; at = at })
+    → MatchResult o (λ x. m ≡ Ok x) (λ c. IsErrAnd m (P c)) → m ≡ or_held o at accepted
+placed P (Ok u) m at is e = e
+placed P (Err c) (Ok u) at is e = absurd e
+placed P (Err c) (Err r) at is e = rw (is c r e)
 
 -- a value of a size lies within what ends at `end`
 pub record Inside (file : List ℕ) (at end size : ℕ) : Type 0 where
@@ -134,10 +116,6 @@ module _ (file : List ℕ) (at end : ℕ) where
       let w = is_within _ _ _ (sym e ∙ f) in
       let o = fits w.0 in
       record { not_beyond = w.0; sized = w.1; head_fits = o.0; value_fits = omega (arith, w.1, o.1) }
-
-  pub within_or : (o : Option ℕ) (w : Result ℕ Refusal) (e : Refusal) (size : ℕ) → o ≡ reach_of file at end → w ≡ ok_or o e → w ≡ Ok size
-      → Inside file at end size
-  within_or o w e size r v q = within o size r (a_size o e size (sym v ∙ q))
 
 -- ---- the verdict on a field
 

@@ -1,7 +1,6 @@
 -- Laws of the verdict on a list of fields: how it follows from what the readers give each other, and what an accepted field is.
 -- Assumes nothing.
 use Rattle.std.specs.Prelude.{Result, Ok, Err}
-use Rattle.std.specs.Result.{result_and}
 use mathlib.Core.Path.{◌≡◌, refl, sym, ap, ◌∙◌}
 use mathlib.Core.Logic.{⊎_elim}
 use mathlib.Core.Bool.{true, false}
@@ -11,7 +10,7 @@ use native.Mathlib.Omega.{arith}
 use lib.ListN.{length}
 use borrow.Author.Tests.{le-leb, lt-leb, lt-ltb, le-ltb}
 use Rattle.job.specs.Field.{tag_at, length_at, value_at, end_at, group_tag, Cause, TooLong, beyond, tag_refusal}
-use Rattle.job.specs.Verdict.{Verdict, Refusal, accepted, and_then, field_verdict, fields_verdict, most_file, verdict}
+use Rattle.job.specs.Verdict.{Verdict, Refusal, accepted, and_then, or_held, field_verdict, fields_verdict, most_file, verdict}
 use Rattle.job.specs.Read.{read_of, ReadsFields, ReadsField}
 use Rattle.job.proofs.FieldLaws.{Inside, which, lt_or_ge, fits, field_beyond, field_bad, field_group}
 
@@ -98,10 +97,20 @@ pub read_next : (v : Verdict) (next next' : ℕ) → v ≡ accepted → next' �
 unfolding read_of
 read_next v next next' e f = rw (e, f)
 
-pub read_and : (v : Verdict) (next next' : ℕ) → next' ≡ next → result_and v (Ok next') ≡ read_of v next
+-- a reader's answer, with the place where it stopped
+pub stopped_bad : (o : Result (Unit {0}) Cause) (c : Cause) (at : ℕ) → o ≡ Err c
+    → read_of (or_held o at accepted) at ≡ Err (record { cause = c; at = at })
 unfolding read_of
-read_and (Ok u) next next' f = rw f
-read_and (Err r) next next' f = refl
+stopped_bad o c at e = rw e
+
+pub stopped_next : (o : Result (Unit {0}) Cause) (at : ℕ) → o ≡ Ok tt → read_of (or_held o at accepted) at ≡ Ok at
+unfolding read_of
+stopped_next o at e = rw e
+
+pub read_held : (o : Result (Unit {0}) Cause) (at end : ℕ) → (o ≡ Ok tt → at ≡ end) → read_of (or_held o at accepted) at ≡ read_of (or_held o at accepted) end
+unfolding read_of
+read_held (Ok u) at end e = rw (e refl)
+read_held (Err c) at end e = refl
 
 -- a group has the verdict v on its value, whose end the code has as a sum
 pub group_held : (file : List ℕ) (at end depth size : ℕ) → Inside file at end size → tag_refusal (tag_at file at) (length_at file at) depth ≡ Ok tt

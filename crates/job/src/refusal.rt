@@ -14,6 +14,7 @@ pub enum Cause {
 }
 
 impl Cause {
+    // The paper's number.
     pub fn number(self) -> u8
         ensures { result ≡ cause_number self }
     {

@@ -1,42 +1,46 @@
 // The verdict on a job file.
-ghost use Rattle.std.specs.Prelude.{◌≡◌, ◌≤◌, length};
+ghost use Rattle.std.specs.Prelude.{◌≡◌, ◌≤◌, length, Ok};
 ghost use Rattle.job.specs.Field.{most_depth};
-ghost use Rattle.job.specs.Verdict.{verdict};
-ghost use Rattle.job.specs.Read.{ReadsFields, ReadsField};
+ghost use Rattle.job.specs.Verdict.{accepted, or_held, verdict};
+ghost use Rattle.job.specs.Read.{ReadsFields, ReadsField, read_of};
 
 use crate::field::{GROUP, HEAD_SIZE, reach_of, tag_refusal};
 use crate::refusal::{Cause, Refusal};
 
 pub const MOST_FILE: usize = 16384;
 
-// Reads the fields from a place up to `end`, which `depth` groups enclose.
+// Reads the fields from a place up to `end`, which `depth` groups enclose. The place moves on to `end`, or to the tag of the bad field.
 #[cycle(read_field_read_fields)]
-fn read_fields(file: &[u8], at: usize, end: usize, depth: u8) -> Result<(), Refusal>
-    requires { (at ≤ end) × (end ≤ length file.now) × (depth ≤ most_depth) }
-    ensures { ReadsFields result file.now at end depth }
+fn read_fields(file: &[u8], at: &mut usize, end: usize, depth: u8) -> Result<(), Cause>
+    requires { (at.old ≤ end) × (end ≤ length file.now) × (depth ≤ most_depth) }
+    ensures reads { ReadsFields (or_held result at.new accepted) file.now at.old end depth }
+    ensures ends { result ≡ Ok tt → at.new ≡ end }
 {
-    let mut next = at;
-    while next < end {
-        next = read_field(file, next, end, depth)?;
+    while *at < end {
+        read_field(file, at, end, depth)?;
     }
     Ok(())
 }
 
-// Reads the field at a place and, if it is a group, the fields that it holds; answers where the next field begins.
+// Reads the field at a place and, if it is a group, the fields that it holds. The place moves on to where the next field begins, or to
+// the tag of the bad field.
 #[cycle(read_field_read_fields)]
-fn read_field(file: &[u8], at: usize, end: usize, depth: u8) -> Result<usize, Refusal>
-    requires { (at ≤ end) × (end ≤ length file.now) × (depth ≤ most_depth) }
-    ensures { ReadsField result file.now at end depth }
+fn read_field(file: &[u8], at: &mut usize, end: usize, depth: u8) -> Result<(), Cause>
+    requires { (at.old ≤ end) × (end ≤ length file.now) × (depth ≤ most_depth) }
+    ensures { ReadsField (read_of (or_held result at.new accepted) at.new) file.now at.old end depth }
 {
-    let size = reach_of(file, at, end).ok_or(Cause::Beyond.at(at))?;
-    let tag = file[at];
-    tag_refusal(tag, size, depth).map_err(|cause| cause.at(at))?;
-    let value = at + HEAD_SIZE;
-    let next = value + size;
-    if tag != GROUP {
-        return Ok(next);
+    let Some(size) = reach_of(file, *at, end) else {
+        return Err(Cause::Beyond);
+    };
+    let tag = file[*at];
+    tag_refusal(tag, size, depth)?;
+    *at += HEAD_SIZE;
+    let next = *at + size;
+    if tag == GROUP {
+        return read_fields(file, at, next, depth + 1);
     }
-    read_fields(file, value, next, depth + 1).and(Ok(next))
+    *at = next;
+    Ok(())
 }
 
 // The verdict on a file of any bytes: accepted, or why not.
@@ -46,5 +50,6 @@ pub fn check_job(file: &[u8]) -> Result<(), Refusal>
     if file.len() > MOST_FILE {
         return Err(Cause::TooLong.at(0));
     }
-    read_fields(file, 0, file.len(), 0)
+    let mut at = 0;
+    read_fields(file, &mut at, file.len(), 0).map_err(|cause| cause.at(at))
 }

@@ -7,5 +7,5 @@
 mod line;
 mod text;
 
-pub use line::{TooShort, Word, hex_text, plain_text};
+pub use line::{TOO_SHORT, TooShort, Word, end_of, hex_text, plain_text};
 pub use text::fits;

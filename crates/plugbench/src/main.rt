@@ -3,16 +3,16 @@
 // its end, and that what is handed on reaches standard output.
 #![tactic(auto)]
 
-ghost use Rattle.std.specs.Prelude.{◌≡◌, suc, length, IfOk, OnOk};
-ghost use Rattle.std.specs.Io.KnownBytes.{Appends};
+ghost use Rattle.std.specs.Prelude.{◌≡◌, ◌≤◌, ◌<◌, suc, length, take, IfOk, OnOk};
+ghost use Rattle.std.specs.Io.KnownBytes.{Appends, Consumes, IsAtEnd};
 ghost use Rattle.listing.specs.Records.{most_file};
 ghost use Rattle.plugrun.specs.Written.{pieces, written};
 ghost use Rattle.plugrun.specs.Turn.{most_text, IsPiece};
 
-use input::read_full;
+use lines::end_of;
 use plugrun::{MOST_ANSWER, MOST_TEXT, blank_flash, first_line, start, take_turn};
 use std::io;
-use std::io::Write;
+use std::io::{Read, Write};
 
 // One byte more than a file may have, so that a longer file is seen to be too long.
 const FILE_ROOM: usize = 1048577;
@@ -28,6 +28,25 @@ fn text_room() -> [u8; MOST_TEXT]
     ensures { length result ≡ most_text }
 {
     [0; MOST_TEXT]
+}
+
+// Reads until the room is full or the input ends; answers how many bytes now stand at the front of the room.
+// Stays, in both programs: as a public function of a crate it would owe one permitted answer, which a read can't have; and the library
+// reads to the end into a heap, or fails where the input ends before the room does.
+fn read_full<R: Read>(input: &mut R, room: &mut [u8]) -> io::Result<usize>
+    ensures size { IfOk result (λ n. n ≤ length room.new) }
+    ensures bytes { IfOk result (λ n. Consumes (R.remaining input.old) (R.remaining input.new) (take n room.new)) }
+    ensures end { IfOk result (λ n. n < length room.new → IsAtEnd (R.remaining input.new)) }
+{
+    let mut size = 0;
+    while size < room.len() {
+        let read = input.read(&mut room[size..])?;
+        if read == 0 {
+            break;
+        }
+        size += read;
+    }
+    Ok(size)
 }
 
 // Hands the piece of this number on to the output; nothing else may be lent to it. Answers the number of the next piece.
@@ -53,7 +72,7 @@ fn write_pieces<W: Write>(output: &mut W, file: &[u8]) -> io::Result<usize>
     let mut flash = blank_flash();
     let mut reply = [0; MOST_ANSWER];
     let mut room = text_room();
-    let end = first_line(file, &mut room).unwrap();
+    let end = end_of(first_line(file, &mut room));
     let mut number = write_piece(output, file, 0, &room[..end])?;
     let mut progress = start(file);
     while let Some(turn) = take_turn(file, number, progress, &mut flash, &mut reply, &mut room) {

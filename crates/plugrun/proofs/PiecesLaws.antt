@@ -1,6 +1,6 @@
 -- The pieces of a file's text, one after another: each turn gives the next, and after the last none is left.
 -- Assumes nothing.
-use Rattle.std.specs.Prelude.{if◌then◌else◌, ◌+◌, Option, Some, None, Ok, IsOk}
+use Rattle.std.specs.Prelude.{if◌then◌else◌, Option, Some, None}
 use mathlib.Core.Logic.{⊎_elim}
 use mathlib.Core.Path.{◌≡◌, refl, sym, ap, ◌∙◌}
 use mathlib.Core.Bool.{Bool, true, false}
@@ -14,9 +14,9 @@ use lib.Seq.{ext_get_or}
 use Rattle.words.specs.Words.{laid}
 use Rattle.words.proofs.WordsLaws.{length_overlay}
 use Rattle.lines.specs.Line.{records_line, refused_line, most_refused_line}
-use Rattle.lines.specs.Room.{put, Stands}
+use Rattle.lines.specs.Room.{put, put_end, Stands}
 use Rattle.lines.proofs.LineLaws.{records_line_le, refused_line_le}
-use Rattle.lines.proofs.RoomLaws.{put_fits, put_there}
+use Rattle.lines.proofs.RoomLaws.{put_stands}
 use Rattle.listing.specs.declared.walk.Span.{Span}
 use Rattle.listing.specs.Records.{most_file, records_from, records_of, record_count, first_met}
 use Rattle.listing.proofs.LineLaws.{which}
@@ -82,18 +82,10 @@ pub record SoFar (file : List ℕ) (number : ℕ) (p : Progress) (f : List ℕ) 
   pub number_small : number ≤ suc p.at
 
 -- the first piece, put at the front of a room
-module _ (file room₀ room : List ℕ) (q : _) (fits : most_refused_line ≤ length room₀)
-    (l : (q ≡ put 0 (first_text file) room₀) × (room ≡ laid 0 (first_text file) room₀)) where
-  first_room : 0 + length (first_text file) ≤ length room₀
-  first_room = omega (arith, first_text_le file, fits)
-
-  pub first_fits : IsOk q
-  first_fits = put_fits _ _ _ _ l.0 first_room
-
 module _ (file room₀ room : List ℕ) (q : _) (end : ℕ) (fits : most_refused_line ≤ length room₀)
-    (l : (q ≡ put 0 (first_text file) room₀) × (room ≡ laid 0 (first_text file) room₀)) (d : q ≡ Ok end) where
+    (l : (q ≡ put 0 (first_text file) room₀) × (room ≡ laid 0 (first_text file) room₀)) (d : end ≡ put_end q) where
   first_stands : Stands 0 (first_text file) room₀ end room
-  first_stands = put_there _ _ _ _ _ _ l.0 l.1 d (first_room file room₀ room q fits l)
+  first_stands = put_stands 0 end (first_text file) room₀ room q (omega (arith, first_text_le file, fits)) l.0 l.1 d
 
   pub first_within : end ≤ length room
   first_within = omega (arith, first_stands.within, first_stands.same_size)

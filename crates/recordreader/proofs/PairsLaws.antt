@@ -51,8 +51,8 @@ abbrev pub left : List ℕ → ℕ → List ℕ
 left cs i = drop (1 + 2 * i) cs
 
 -- all of them, as the code cuts them off
-abbrev behind : List ℕ → List ℕ
-behind cs = take (length cs - 1) (drop 1 cs)
+abbrev behind : List ℕ → ℕ → List ℕ
+behind cs count = take (1 + 2 * count - 1) (drop 1 cs)
 
 -- i pairs are read: the memory `before` holds their bytes at its front and is now `held`, and they come to `total`
 pub record Going (cs before held : List ℕ) (i total : ℕ) : Type 0 where
@@ -80,17 +80,21 @@ module _ (cs before : List ℕ) (count : ℕ) (pre : (length cs ≡ suc (2 * cou
       ∙ ap (λ l. get_or cs (1 + 2 * i) 0 ∷ l) (rw e (drop-cons cs (2 + 2 * i) 0 (omega arith)))
       ∙ ap (λ j. get_or cs (1 + 2 * i) 0 ∷ get_or cs (2 + 2 * i) 0 ∷ drop j cs) f
 
-  module _ (ps : List (List ℕ)) (front : ps ≡ first_chunks 2 (length (behind cs) / 2) (behind cs)) (held : List ℕ) (i total : ℕ)
-      (g : Going cs before held i total) (more : i < length ps) (count_is : length ps ≡ length (behind cs) / 2) where
+  -- what is cut off is all that is behind the mark
+  all_behind : behind cs count ≡ drop 1 cs
+  all_behind = let e : 1 + 2 * count - 1 ≡ length cs - 1 = omega arith in rw e (take_rest cs 1)
+
+  module _ (ps : List (List ℕ)) (front : ps ≡ first_chunks 2 (length (behind cs count) / 2) (behind cs count)) (held : List ℕ) (i total : ℕ)
+      (g : Going cs before held i total) (more : i < length ps) (count_is : length ps ≡ length (behind cs count) / 2) where
     inside : i < count
-    inside = let l = ap length (take_rest cs 1) ∙ length-drop 1 cs in omega (arith, more, count_is)
+    inside = let l = ap length all_behind ∙ length-drop 1 cs in omega (arith, more, count_is)
 
     -- the two characters of the next pair
     pub pair_is : get_or ps i [] ≡ get_or cs (1 + 2 * i) 0 ∷ get_or cs (2 + 2 * i) 0 ∷ []
     pair_is =
         ap (λ (q : List (List ℕ)). get_or q i []) front
-        ∙ chunk (length (behind cs) / 2) i (behind cs) (omega (arith, more, count_is))
-        ∙ ap (λ s. take 2 (drop (2 * i) s)) (take_rest cs 1)
+        ∙ chunk (length (behind cs count) / 2) i (behind cs count) (omega (arith, more, count_is))
+        ∙ ap (λ s. take 2 (drop (2 * i) s)) all_behind
         ∙ ap (take 2) (drop-drop (2 * i) 1 cs ∙ next_pair i inside)
 
     -- one of them is no digit

@@ -23,7 +23,8 @@ pub(crate) fn read_pairs(characters: &[u8], count: usize, held: &mut [u8]) -> Op
 {
     let values = digit_table();
     let mut total: u8 = 0;
-    let (pairs, _) = characters[1..].as_chunks::<2>();
+    // Cut off by the count: up to the end of the characters, whose number would be held too, it takes 16 bytes more of stack.
+    let (pairs, _) = characters[1..1 + 2 * count].as_chunks::<2>();
     for (i, &[high, low]) in pairs.iter().enumerate() {
         let byte = digit_of(&values, high)? * 16 + digit_of(&values, low)?;
         // Stays: by its index, as a proof knows no element that was stored through an `iter_mut` in a zip.

@@ -64,7 +64,7 @@ pub record Displayed (first past from : ℕ) (f room₀ : List ℕ) (place : ℕ
   pub whole : display_text first (past - 1) f ≡ done ++ display_text from (past - 1) f
   pub stands : Stands 0 done room₀ place room
 
-pub none_displayed : (first past : ℕ) (f room : List ℕ) → Displayed first past first f room 0 room
+none_displayed : (first past : ℕ) (f room : List ℕ) → Displayed first past first f room 0 room
 none_displayed first past f room = record { done = []; whole = refl; stands = none_stands 0 room zero-le }
 
 module _ {first past from : ℕ} {f room₀ : List ℕ} {place : ℕ} {room : List ℕ} (d : Displayed first past from f room₀ place room) where
@@ -88,7 +88,7 @@ module _ {first past from : ℕ} {f room₀ : List ℕ} {place : ℕ} {room : Li
         (λ (h : from + 16 ≤ past). let e : to ≡ from + 16 = omega arith in ap (λ x. display_text x (past - 1) f) e)
         (cases_lt past (from + 16))
 
-    pub one_more : {place' : ℕ} {room' : List ℕ} → Stands place (display_line from (to - 1) f) room place' room'
+    one_more : {place' : ℕ} {room' : List ℕ} → Stands place (display_line from (to - 1) f) room place' room'
         → Displayed first past (from + 16) f room₀ place' room'
     one_more s = record {
       done = d.done ++ display_line from (to - 1) f;
@@ -98,7 +98,49 @@ module _ {first past from : ℕ} {f room₀ : List ℕ} {place : ℕ} {room : Li
       stands = joined d.stands s;
     }
 
-  pub all_displayed : 0 < past → past ≤ from → Stands 0 (display_text first (past - 1) f) room₀ place room
+  all_displayed : 0 < past → past ≤ from → Stands 0 (display_text first (past - 1) f) room₀ place room
   all_displayed some h =
       let none : display_text from (past - 1) f ≡ [] = none_left from (past - 1) f (omega arith) in
       rw (d.whole, none, append-nil) d.stands
+
+-- the same as the code goes, from piece to piece of the flash: `count` pieces are displayed, each of `size` bytes, and `left` bytes are left
+pub record Pieces (first past : ℕ) (f room₀ : List ℕ) (place : ℕ) (room : List ℕ) (count size left : ℕ) : Type 0 where
+  pub lines : Displayed first past (first + 16 * count) f room₀ place room
+  pub sixteen : size ≡ 16
+  pub bytes_left : left ≡ past - (first + 16 * count)
+
+pub no_piece : (first past count size left : ℕ) (f room : List ℕ) → count ≡ 0 → size ≡ 16 → left ≡ past - first
+    → Pieces first past f room 0 room count size left
+no_piece first past count size left f room none sixteen all =
+    let e : first + 16 * count ≡ first = omega arith in
+    record { lines = rw e (none_displayed first past f room); sixteen = sixteen; bytes_left = omega arith }
+
+module _ {first past : ℕ} {f room₀ : List ℕ} {place : ℕ} {room : List ℕ} {count size left : ℕ}
+    (p : Pieces first past f room₀ place room count size left) where
+  -- the next piece is that of number n and has k bytes
+  module _ (n k : ℕ) (next_is : n ≡ count) (most : k ≡ min size left) (some : 0 < left) where
+    lines_before : Displayed first past (first + 16 * n) f room₀ place room
+    lines_before = rw next_is p.lines
+
+    more : first + 16 * n < past
+    more = omega (arith, p.bytes_left)
+
+    ends : first + 16 * n + k ≡ min past (first + 16 * n + 16)
+    ends = omega (arith, p.sixteen, p.bytes_left)
+
+    pub piece_fits : past ≤ length f → length (display_text first (past - 1) f) ≤ length room₀
+        → place + 7 + 2 * (first + 16 * n + k - (first + 16 * n)) ≤ length room
+    piece_fits = line_fits lines_before (first + 16 * n + k) more ends
+
+    pub piece_more : (count' size' left' place' : ℕ) (room' : List ℕ) → count' ≡ count + 1 → size' ≡ size → left ≡ k + left'
+        → Stands place (display_line (first + 16 * n) (first + 16 * n + k - 1) f) room place' room' → Pieces first past f room₀ place' room' count' size' left'
+    piece_more count' size' left' place' room' one same taken s =
+        let e : first + 16 * count' ≡ first + 16 * n + 16 = omega arith in
+        record {
+          lines = rw e (one_more lines_before (first + 16 * n + k) more ends s);
+          sixteen = same ∙ p.sixteen;
+          bytes_left = omega (arith, p.sixteen, p.bytes_left);
+        }
+
+  pub no_piece_left : 0 < past → left ≡ 0 → Stands 0 (display_text first (past - 1) f) room₀ place room
+  no_piece_left some none = all_displayed p.lines some (omega (arith, p.bytes_left))

@@ -6,12 +6,9 @@ ghost use Rattle.plug.specs.Step.{told, in_room};
 ghost use Rattle.plug.specs.Answered.{Replied};
 ghost use Rattle.replies.specs.Replies.{quiet_answer, told_answer, done_in};
 
-use lines::hex_text;
+use lines::{TOO_SHORT, hex_text};
 use memory::FlashAddress;
 use plug::{Answer, Config, Outcome};
-
-// "9 in place of whichever answer doesn't fit".
-const TOO_SHORT: u8 = 9;
 
 // `.` CR LF.
 pub const DONE_SIZE: usize = 3;
@@ -32,6 +29,7 @@ pub fn quiet(config: Config, outcome: Outcome) -> Answer
 pub fn no_room(config: Config) -> Answer
     ensures { result ≡ quiet_answer config (Outcome.Refused 9) }
 {
+    // "9 in place of whichever answer doesn't fit"
     quiet(config, Outcome::Refused(TOO_SHORT))
 }
 

@@ -21,10 +21,10 @@ use Rattle.job.specs.Walk.{walk, first_met}
 use Rattle.job.proofs.VerdictLaws.{file_accepted}
 use Rattle.job.proofs.WalkLaws.{steps, no_more, walk_job}
 use Rattle.lines.specs.Line.{request_line, job_line, refused_line, most_line, most_job_line}
-use Rattle.lines.specs.Room.{put, Stands}
+use Rattle.lines.specs.Room.{put, put_end, Stands}
 use Rattle.lines.specs.declared.line.Word.{Word}
 use Rattle.lines.proofs.LineLaws.{request_line_le}
-use Rattle.lines.proofs.RoomLaws.{none_stands, joined, put_fits, put_there}
+use Rattle.lines.proofs.RoomLaws.{none_stands, joined, put_fits, put_there, put_stands}
 use Rattle.rules.specs.Session.{idle}
 use Rattle.rules.specs.Result.{Board, board, Result, next}
 use Rattle.rules.specs.declared.answer.Answer.{Answer}
@@ -154,15 +154,12 @@ module _ (file f₀ e₀ room₀ : List ℕ) (place : ℕ) (f e reply room : Lis
 -- ---- a whole job
 
 -- a line at the start of a room for every job
-module _ (most : ℕ) (text room₀ : List ℕ) (q : _) (h : length text ≤ most) (k : most ≤ most_output) (m : most_output ≤ length room₀)
-    (e : q ≡ put 0 text room₀) where
-  pub front_fits : IsOk q
-  front_fits = put_fits _ _ _ _ e (omega (arith, h, k, m))
-
-  pub front_stands : (end : ℕ) (room : List ℕ) → room ≡ laid 0 text room₀ → q ≡ Ok end → Stands 0 text room₀ end room × (end ≤ most)
-  front_stands end room l d =
-      let t = put_there _ _ _ _ _ _ e l d (omega (arith, h, k, m)) in
-      (t, omega (arith, h, t.ends))
+pub front_stands : (end most : ℕ) (text room₀ room : List ℕ) (q : _) → length text ≤ most → most ≤ most_output
+    → most_output ≤ length room₀ → (q ≡ put 0 text room₀) × (room ≡ laid 0 text room₀) → end ≡ put_end q
+    → Stands 0 text room₀ end room × (end ≤ most)
+front_stands end most text room₀ room q h k m l d =
+    let t = put_stands 0 end text room₀ room q (omega (arith, h, k, m)) l.0 l.1 d in
+    (t, omega (arith, h, t.ends))
 
 module _ (file : List ℕ) (g : verdict file ≡ accepted) where
   pub ready : (reply room : List ℕ) (place : ℕ) → length reply ≡ reply_size → most_output ≤ length room → place ≤ most_job_line → Ready file reply room place

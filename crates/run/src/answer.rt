@@ -10,6 +10,7 @@ ghost use Rattle.run.specs.Run.{most_output};
 
 use crate::run::run_all;
 use job::{check_job, count_requests};
+use lines::end_of;
 use memory::{EEPROM_SIZE, FLASH_SIZE};
 use printing::{job_line, refused_line};
 
@@ -43,7 +44,7 @@ fn run_accepted(file: &[u8], room: &mut [u8]) -> usize
     requires most_output_in_bounds { most_output ≤ length room.old }
     ensures { Stands 0 (written_for file.now accepted) room.old result room.new }
 {
-    let place = job_line(count_requests(file), room, 0).unwrap();
+    let place = end_of(job_line(count_requests(file), room, 0));
     let mut flash = blank_flash();
     let mut eeprom = blank_eeprom();
     let mut reply = reply_buffer();
@@ -57,7 +58,7 @@ fn write_whole(file: &[u8], room: &mut [u8]) -> usize
 {
     match check_job(file) {
         Ok(()) => run_accepted(file, room),
-        Err(refusal) => refused_line(refusal.cause.number(), refusal.at, room, 0).unwrap(),
+        Err(refusal) => end_of(refused_line(refusal.cause.number(), refusal.at, room, 0)),
     }
 }
 

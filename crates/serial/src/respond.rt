@@ -56,7 +56,8 @@ pub fn step(config: Config, characters: &[u8], flash: &mut [u8], room: &mut [u8]
         Stepped b (stepped b characters.now (length room.old))
         result flash.new room.new room.old }
 {
-    if flash.len() != FLASH_SIZE {
+    let wrong_size = flash.len() != FLASH_SIZE;
+    if wrong_size {
         return quiet(config, Outcome::Refused(WRONG_FLASH));
     }
     let mut held = [0u8; MOST_DATA];

@@ -2,31 +2,27 @@
 -- Assumes nothing.
 use Rattle.std.proofs.Common.{ℕ, sym, subst, ◌∙◌, arith, length-take-le}
 use Rattle.std.proofs.KnownBytes.{Appends-nil}
-use Rattle.plugrun.proofs.PiecesLaws.{SoFar, first_fits, first_within, first_piece, begun, further, same_room, size_within, is_piece, less_left, all_handed_on}
+use Rattle.plugrun.proofs.PiecesLaws.{SoFar, first_within, first_piece, begun, further, same_room, size_within, is_piece, less_left, all_handed_on}
 use Rattle.plugbench.proofs.HandedLaws.{handed, whole}
 use Rattle.plugbench.proofs.write_pieces.Goals as goal
 
 -- ---- the first piece
 
-pub unwrap-end-requires : goal.unwrap-end-requires
-unwrap-end-requires g c =
-    first_fits c.args.file.now _ _ _ (omega (arith, c.text_room-room.ensures)) (c.first_line.ensures.value, c.first_line.ensures.room_after)
-
 pub slice_bounds-room-end : goal.slice_bounds-room-end
 slice_bounds-room-end g c =
     first_within c.args.file.now _ _ _ _ (omega (arith, c.text_room-room.ensures))
-    (c.first_line.ensures.value, c.first_line.ensures.room_after) c.unwrap-end.ensures
+    (c.first_line.ensures.value, c.first_line.ensures.room_after) c.end_of-end.ensures
 
 pub slice_bounds-write_piece-end : goal.slice_bounds-write_piece-end
 slice_bounds-write_piece-end g c =
     sym
     (length-take-le _ _
     (first_within c.args.file.now _ _ _ _ (omega (arith, c.text_room-room.ensures))
-    (c.first_line.ensures.value, c.first_line.ensures.room_after) c.unwrap-end.ensures))
+    (c.first_line.ensures.value, c.first_line.ensures.room_after) c.end_of-end.ensures))
 
 pub write_piece-requires : goal.write_piece-requires
 write_piece-requires g c =
-    first_piece _ _ _ _ _ (omega (arith, c.text_room-room.ensures)) (c.first_line.ensures.value, c.first_line.ensures.room_after) c.unwrap-end.ensures
+    first_piece _ _ _ _ _ (omega (arith, c.text_room-room.ensures)) (c.first_line.ensures.value, c.first_line.ensures.room_after) c.end_of-end.ensures
 
 pub loop-turn-init : goal.loop-turn-init
 loop-turn-init g c =
@@ -36,7 +32,7 @@ loop-turn-init g c =
           (begun _ _ _ c.start-progress.ensures c.blank_flash-flash.ensures),
       omega (arith, c.first_line.auto.room, c.text_room-room.ensures),
       handed file _ _ _ 0 _ _ (Appends-nil _)
-          (first_piece _ _ _ _ _ (omega (arith, c.text_room-room.ensures)) (c.first_line.ensures.value, c.first_line.ensures.room_after) c.unwrap-end.ensures)
+          (first_piece _ _ _ _ _ (omega (arith, c.text_room-room.ensures)) (c.first_line.ensures.value, c.first_line.ensures.room_after) c.end_of-end.ensures)
           c.in_ok-number.ensures.bytes number,
     )
 

@@ -1,7 +1,7 @@
 -- What the input gave so far stands at the front of the room; the measure is the room that is left.
 use Rattle.std.proofs.Common.{length, take, ◌-◌, ◌≤◌}
 use Rattle.std.specs.Io.KnownBytes.{Consumes}
-use Rattle.input.proofs.read_full.Given as goal
+use Rattle.bench.proofs.read_full.Given as goal
 
 abbrev pub invariant-loop-size : goal.invariant-loop-size
 invariant-loop-size g l =

@@ -1,7 +1,7 @@
--- `input::read_full` meets its contract: what is read comes behind what was read before.
+-- `bench::read_full` meets its contract: what is read comes behind what was read before.
 -- Assumes nothing.
-use Rattle.input.proofs.ReadLaws.{within, given}
-use Rattle.input.proofs.read_full.Goals as goal
+use Rattle.lines.proofs.ReadLaws.{within, given}
+use Rattle.bench.proofs.read_full.Goals as goal
 
 pub loop-size-preserved : goal.loop-size-preserved
 loop-size-preserved g c =

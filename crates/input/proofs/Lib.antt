@@ -1,3 +1,0 @@
--- The laws by which the code meets its contract.
-mod ReadLaws
-pub mod OneAnswer
