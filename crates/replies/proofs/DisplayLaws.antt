@@ -64,7 +64,7 @@ pub record Displayed (first past from : ℕ) (f room₀ : List ℕ) (place : ℕ
   pub whole : display_text first (past - 1) f ≡ done ++ display_text from (past - 1) f
   pub stands : Stands 0 done room₀ place room
 
-none_displayed : (first past : ℕ) (f room : List ℕ) → Displayed first past first f room 0 room
+pub none_displayed : (first past : ℕ) (f room : List ℕ) → Displayed first past first f room 0 room
 none_displayed first past f room = record { done = []; whole = refl; stands = none_stands 0 room zero-le }
 
 module _ {first past from : ℕ} {f room₀ : List ℕ} {place : ℕ} {room : List ℕ} (d : Displayed first past from f room₀ place room) where
@@ -88,7 +88,7 @@ module _ {first past from : ℕ} {f room₀ : List ℕ} {place : ℕ} {room : Li
         (λ (h : from + 16 ≤ past). let e : to ≡ from + 16 = omega arith in ap (λ x. display_text x (past - 1) f) e)
         (cases_lt past (from + 16))
 
-    one_more : {place' : ℕ} {room' : List ℕ} → Stands place (display_line from (to - 1) f) room place' room'
+    pub one_more : {place' : ℕ} {room' : List ℕ} → Stands place (display_line from (to - 1) f) room place' room'
         → Displayed first past (from + 16) f room₀ place' room'
     one_more s = record {
       done = d.done ++ display_line from (to - 1) f;
@@ -98,7 +98,7 @@ module _ {first past from : ℕ} {f room₀ : List ℕ} {place : ℕ} {room : Li
       stands = joined d.stands s;
     }
 
-  all_displayed : 0 < past → past ≤ from → Stands 0 (display_text first (past - 1) f) room₀ place room
+  pub all_displayed : 0 < past → past ≤ from → Stands 0 (display_text first (past - 1) f) room₀ place room
   all_displayed some h =
       let none : display_text from (past - 1) f ≡ [] = none_left from (past - 1) f (omega arith) in
       rw (d.whole, none, append-nil) d.stands
