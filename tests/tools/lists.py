@@ -14,10 +14,10 @@ FUNCTIONS = """# The functions
 
 Each function that has a contract: what it does, by the first sentence of the comment above it, and the definitions that its contract names.
 A contract says that the answer, and every memory that is lent to be changed, is what these definitions give. A public function can be
-called from another crate; it asks for nothing and answers every input. Of each it is proved that no second answer would pass. No program
-here calls input's `read_full()`: of known bytes, and where the read succeeds, it has one count, and one front of the room. A function inside
-its crate may ask for something, which its callers have to prove. A conversion is the language's `From`, for any input: its clause says what
-it gives. [PROOFS.md](PROOFS.md) says how a contract is read.
+called from another crate; it asks for nothing and answers every input. Of each it is proved that no second answer would pass. The one
+exception is input's `read_full()`, which no program here calls: it is proved of the count and of the bytes that it tells, where the input's
+bytes are known and the read succeeds. A function inside its crate may ask for something, which its callers have to prove. A conversion is
+the language's `From`, for any input: its clause says what it gives. [PROOFS.md](PROOFS.md) says how a contract is read.
 
 This page is made by `tests/tools/lists.py` from crates/*/src. It is not written by hand.
 """

@@ -31,8 +31,8 @@ fn text_room() -> [u8; MOST_TEXT]
 }
 
 // Reads until the room is full or the input ends; answers how many bytes now stand at the front of the room.
-// Stays, in both programs: what they run owes one permitted answer where it is public, which a read can't have, so that crates/input has it
-// for others alone; and the library reads to the end into a heap, or fails where the input ends before the room does.
+// Stays, in both programs: a public function owes one permitted answer, which a read can't have (crates/input is the exception, for programs
+// of others); and the library reads to the end into a heap, or fails where the input ends before the room does.
 fn read_full<R: Read>(input: &mut R, room: &mut [u8]) -> io::Result<usize>
     ensures size { IfOk result (λ n. n ≤ length room.new) }
     ensures bytes { IfOk result (λ n. Consumes (R.remaining input.old) (R.remaining input.new) (take n room.new)) }
